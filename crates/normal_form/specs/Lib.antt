@@ -1,0 +1,13 @@
+pub mod Search
+pub mod Same
+pub mod NormalForm
+pub mod Layout
+pub mod SearchLaws
+pub mod RunsLaws
+pub mod Laws
+pub mod LayoutLaws
+pub mod Shape
+pub mod Loop
+pub mod MapLaws
+pub mod Compute
+pub mod Examples

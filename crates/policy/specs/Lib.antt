@@ -1,0 +1,6 @@
+pub mod Action
+pub mod Policy
+pub mod PolicyLaws
+pub mod Words
+pub mod WordsLaws
+pub mod Example

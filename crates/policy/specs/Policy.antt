@@ -1,0 +1,49 @@
+-- Policies: rows, the ordered search, and the normal form for one direction (document 01). Assumes nothing: these are definitions.
+use Prim.Native.Nat.{ℕ}
+use mathlib.Core.Bool.{Bool, true, false, cond, _&&_}
+use mathlib.Core.List.{List, [], _∷_, map}
+use Rattle.selectors.specs.Range.{Range}
+use Rattle.selectors.specs.declared.Direction.{Direction}
+use Rattle.selectors.specs.declared.Direction.the-variants.{Out, In}
+use Rattle.normal_form.specs.Search.{Row, holds}
+use Rattle.normal_form.specs.NormalForm.{normalForm}
+use Rattle.policy.specs.declared.Action.{Action}
+use Rattle.policy.specs.declared.Action.the-variants.{Discard}
+use Rattle.policy.specs.declared.RowDirection.{RowDirection}
+use Rattle.policy.specs.declared.RowDirection.the-variants.{Only, Both}
+use Rattle.policy.specs.Action.{action-≟}
+
+-- A row of a policy: its way (`out`, `in` or `both`), its action, and a range for each field.
+pub record PolicyRow : Type 0 where
+  pub direction : RowDirection
+  pub action : Action
+  pub ranges : List Range
+
+-- 'Whose way is the asked way or `both`'.
+abbrev pub appliesTo : RowDirection → Direction → Bool
+appliesTo (Only Out) Out = true
+appliesTo (Only Out) In = false
+appliesTo (Only In) Out = false
+appliesTo (Only In) In = true
+appliesTo Both d = true
+
+-- A row for the asked direction whose ranges all hold the values.
+unfoldable pub matches : Direction → PolicyRow → List ℕ → Bool
+matches d r vs = appliesTo (r .direction) d && holds (r .ranges) vs
+
+-- 'The ordered search takes the first row, top down, whose way is the asked way or `both` and whose five ranges all hold the values.
+-- Its action is the answer; no such row means discard.'
+unfoldable pub orderedSearch : Direction → List PolicyRow → List ℕ → Action
+orderedSearch d [] vs = Discard
+orderedSearch d (r ∷ rs) vs = cond (matches d r vs) (r .action) (orderedSearch d rs vs)
+
+-- The normal form of a policy for one direction, over fields of these sizes: discard makes no row.
+abbrev pub policyNormalForm : List ℕ → Direction → List PolicyRow → List (Row Action)
+policyNormalForm sizes d rows = normalForm action-≟ Discard sizes (orderedSearch d rows)
+
+-- 'Searching a normal form is the ordered search of its rows, read as a policy': each row is one for that direction.
+abbrev pub asRow : Direction → Row Action → PolicyRow
+asRow d r = record { direction = Only d; action = r .leaf; ranges = r .ranges }
+
+abbrev pub asPolicy : Direction → List (Row Action) → List PolicyRow
+asPolicy d rows = map (asRow d) rows

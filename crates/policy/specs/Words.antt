@@ -1,0 +1,55 @@
+-- Rows as words in a flat list: what any words mean. Assumes nothing: these are definitions.
+-- A row is 22 words: its direction, its action, and for each of five fields the low end and the high end, each two words, the upper first.
+use Prim.Native.Nat.{ℕ, zero, suc, _+_, _-_, _*_, _/_}
+use mathlib.Core.Bool.{cond}
+use mathlib.Core.List.{List, [], _∷_}
+use lib.Dec.{eqb}
+use lib.ListN.{length, getD}
+use Rattle.selectors.specs.Range.{Range}
+use Rattle.selectors.specs.Ranges.{fromTo}
+use Rattle.selectors.specs.declared.Value.{Value}
+use Rattle.selectors.specs.declared.Direction.the-variants.{Out, In}
+use Rattle.policy.specs.declared.Action.{Action}
+use Rattle.policy.specs.declared.Action.the-variants.{Discard, Bypass, Protect}
+use Rattle.policy.specs.declared.RowDirection.{RowDirection}
+use Rattle.policy.specs.declared.RowDirection.the-variants.{Only, Both}
+use Rattle.policy.specs.Policy.{PolicyRow}
+
+-- 1 is out, 2 is in, and any other word both.
+abbrev pub directionOf : ℕ → RowDirection
+directionOf n = cond (eqb n 1) (Only Out) (cond (eqb n 2) (Only In) Both)
+
+-- 0 is discard, 1 is bypass, and N + 2 is protect-N: every word is one action, and every action one word.
+abbrev pub actionOf : ℕ → Action
+actionOf n = cond (eqb n 0) Discard (cond (eqb n 1) Bypass (Protect (n - 2)))
+
+abbrev pub actionWord : Action → ℕ
+actionWord Discard = 0
+actionWord Bypass = 1
+actionWord (Protect n) = n + 2
+
+-- The value of two words and the range of four, from the word i on.
+unfoldable pub valueAt : List ℕ → ℕ → Value
+valueAt ws i = record { upper = getD ws i 0; lower = getD ws (i + 1) 0 }
+
+abbrev pub rangeAt : List ℕ → ℕ → Range
+rangeAt ws i = fromTo (valueAt ws i) (valueAt ws (i + 2))
+
+abbrev pub rangesAt : List ℕ → ℕ → List Range
+rangesAt ws i = rangeAt ws i ∷ rangeAt ws (i + 4) ∷ rangeAt ws (i + 8) ∷ rangeAt ws (i + 12) ∷ rangeAt ws (i + 16) ∷ []
+
+abbrev pub rowWords : ℕ
+rowWords = 22
+
+-- The row whose first word is the word `at`.
+unfoldable pub rowAt : List ℕ → ℕ → PolicyRow
+rowAt ws at = record { direction = directionOf (getD ws at 0); action = actionOf (getD ws (at + 1) 0); ranges = rangesAt ws (at + 2) }
+
+-- n rows from the row i on.
+unfoldable pub rowsFrom : List ℕ → ℕ → ℕ → List PolicyRow
+rowsFrom ws i zero = []
+rowsFrom ws i (suc n) = rowAt ws (i * rowWords) ∷ rowsFrom ws (suc i) n
+
+-- The rows of a list of words: as many as are there whole; a rest shorter than a row is no row.
+abbrev pub policyRows : List ℕ → List PolicyRow
+policyRows ws = rowsFrom ws 0 (length ws / rowWords)

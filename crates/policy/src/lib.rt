@@ -1,0 +1,166 @@
+// Policies as rows of words in a flat slice, and the ordered search over them (document 01; RFC 4301's SPD).
+ghost use mathlib.Core.Path.{_≡_};
+ghost use Prim.Native.Nat.{_+_, _≤_};
+ghost use lib.ListN.{length};
+ghost use Rattle.selectors.specs.Value.{number, combination};
+ghost use Rattle.selectors.specs.Range.{contains};
+ghost use Rattle.normal_form.specs.Search.{holds};
+ghost use Rattle.policy.specs.Policy.{appliesTo, matches, orderedSearch};
+ghost use Rattle.policy.specs.Words.{directionOf, actionOf, valueAt, rangeAt, rangesAt, rowAt, policyRows};
+use selectors::AddressRange;
+use selectors::Direction;
+use selectors::PortRange;
+use selectors::ProtocolRange;
+use selectors::Selectors;
+use selectors::Value;
+
+pub enum Action {
+    Discard,
+    Bypass,
+    // With the number N of protect-N.
+    Protect(u64),
+}
+
+// The direction of a row: one direction only, or both.
+pub enum RowDirection {
+    Only(Direction),
+    Both,
+}
+
+// The words of a row: its direction, its action, and for each of five fields low and high, of two words each.
+pub const ROW_WORDS: usize = 22;
+
+pub fn direction_of(word: u64) -> RowDirection
+    ensures { λ r. ⌜ r ≡ directionOf word ⌝ }
+{
+    if word == 1 {
+        return RowDirection::Only(Direction::Out);
+    }
+    if word == 2 {
+        return RowDirection::Only(Direction::In);
+    }
+    RowDirection::Both
+}
+
+pub fn action_of(word: u64) -> Action
+    ensures { λ r. ⌜ r ≡ actionOf word ⌝ }
+{
+    if word == 0 {
+        return Action::Discard;
+    }
+    if word == 1 {
+        return Action::Bypass;
+    }
+    Action::Protect(word - 2)
+}
+
+fn same_direction(a: Direction, b: Direction) -> bool
+    ensures { λ r. ⌜ r ≡ appliesTo (RowDirection.Only a) b ⌝ }
+{
+    match a {
+        Direction::Out => match b {
+            Direction::Out => true,
+            Direction::In => false,
+        },
+        Direction::In => match b {
+            Direction::Out => false,
+            Direction::In => true,
+        },
+    }
+}
+
+impl RowDirection {
+    pub fn applies_to(self, direction: Direction) -> bool
+        ensures { λ r. ⌜ r ≡ appliesTo self direction ⌝ }
+    {
+        match self {
+            RowDirection::Only(own) => same_direction(own, direction),
+            RowDirection::Both => true,
+        }
+    }
+}
+
+fn value_at(rows: &[u64], at: usize) -> Value
+    requires { ⌜ at + 2 ≤ length (now rows) ⌝ }
+    ensures { λ r. ⌜ r ≡ valueAt (now (rows .entry)) at ⌝ }
+{
+    Value {
+        upper: rows[at],
+        lower: rows[at + 1],
+    }
+}
+
+// Whether the range at a word holds a value: an address, a protocol, a port.
+fn address_holds(rows: &[u64], at: usize, value: Value) -> bool
+    requires { ⌜ at + 4 ≤ length (now rows) ⌝ }
+    ensures { λ r. ⌜ r ≡ contains (rangeAt (now (rows .entry)) at) (number value) ⌝ }
+{
+    let low = value_at(rows, at);
+    let high = value_at(rows, at + 2);
+    AddressRange { low, high }.holds(value)
+}
+
+fn protocol_holds(rows: &[u64], at: usize, value: Value) -> bool
+    requires { ⌜ at + 4 ≤ length (now rows) ⌝ }
+    ensures { λ r. ⌜ r ≡ contains (rangeAt (now (rows .entry)) at) (number value) ⌝ }
+{
+    let low = value_at(rows, at);
+    let high = value_at(rows, at + 2);
+    ProtocolRange { low, high }.holds(value)
+}
+
+fn port_holds(rows: &[u64], at: usize, value: Value) -> bool
+    requires { ⌜ at + 4 ≤ length (now rows) ⌝ }
+    ensures { λ r. ⌜ r ≡ contains (rangeAt (now (rows .entry)) at) (number value) ⌝ }
+{
+    let low = value_at(rows, at);
+    let high = value_at(rows, at + 2);
+    PortRange { low, high }.holds(value)
+}
+
+// Whether the five ranges from a word on all hold the values.
+fn ranges_hold(rows: &[u64], at: usize, selectors: Selectors) -> bool
+    requires { ⌜ at + 20 ≤ length (now rows) ⌝ }
+    ensures { λ r. ⌜ r ≡ holds (rangesAt (now (rows .entry)) at) (combination selectors) ⌝ }
+{
+    if !address_holds(rows, at, selectors.local) {
+        return false;
+    }
+    if !address_holds(rows, at + 4, selectors.remote) {
+        return false;
+    }
+    if !protocol_holds(rows, at + 8, selectors.protocol) {
+        return false;
+    }
+    if !port_holds(rows, at + 12, selectors.local_port) {
+        return false;
+    }
+    port_holds(rows, at + 16, selectors.remote_port)
+}
+
+// Whether the row at a word is for the direction and holds the values.
+fn row_matches(rows: &[u64], at: usize, direction: Direction, selectors: Selectors) -> bool
+    requires { ⌜ at + 22 ≤ length (now rows) ⌝ }
+    ensures { λ r. ⌜ r ≡ matches direction (rowAt (now (rows .entry)) at) (combination selectors) ⌝ }
+{
+    if !direction_of(rows[at]).applies_to(direction) {
+        return false;
+    }
+    ranges_hold(rows, at + 2, selectors)
+}
+
+// The ordered search: the action of the first row for the direction that holds the values, and discard where there is none.
+pub fn search(rows: &[u64], direction: Direction, selectors: Selectors) -> Action
+    ensures { λ r. ⌜ r ≡ orderedSearch direction (policyRows (now (rows .entry))) (combination selectors) ⌝ }
+{
+    let count = rows.len() / ROW_WORDS;
+    let mut row: usize = 0;
+    while row < count {
+        let at = row * ROW_WORDS;
+        if row_matches(rows, at, direction, selectors) {
+            return action_of(rows[at + 1]);
+        }
+        row += 1;
+    }
+    Action::Discard
+}

@@ -1,0 +1,5 @@
+pub mod Range
+pub mod RangeLaws
+pub mod Value
+pub mod ValueLaws
+pub mod Ranges
