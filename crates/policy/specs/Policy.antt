@@ -1,14 +1,16 @@
 -- Policies: rows, the ordered search, and the normal form for one direction (document 01). Assumes nothing: these are definitions.
-use Prim.Native.Nat.{ℕ}
+use Prim.Native.Nat.{ℕ, suc}
 use mathlib.Core.Bool.{Bool, true, false, cond, _&&_}
 use mathlib.Core.List.{List, [], _∷_, map}
 use Rattle.selectors.specs.Range.{Range}
 use Rattle.selectors.specs.declared.Direction.{Direction}
 use Rattle.selectors.specs.declared.Direction.the-variants.{Out, In}
-use Rattle.normal_form.specs.Search.{Row, holds}
+use Rattle.normal_form.specs.Search.{Row as LeafRow, holds}
 use Rattle.normal_form.specs.NormalForm.{normalForm}
 use Rattle.policy.specs.declared.Action.{Action}
 use Rattle.policy.specs.declared.Action.the-variants.{Discard}
+use Rattle.policy.specs.declared.Found.{Found}
+use Rattle.policy.specs.declared.Found.the-variants.{Row, Nothing}
 use Rattle.policy.specs.declared.RowDirection.{RowDirection}
 use Rattle.policy.specs.declared.RowDirection.the-variants.{Only, Both}
 use Rattle.policy.specs.Action.{action-≟}
@@ -37,13 +39,18 @@ unfoldable pub orderedSearch : Direction → List PolicyRow → List ℕ → Act
 orderedSearch d [] vs = Discard
 orderedSearch d (r ∷ rs) vs = cond (matches d r vs) (r .action) (orderedSearch d rs vs)
 
+-- The place of that row, counted from n, where there is one.
+unfoldable pub matchFrom : ℕ → Direction → List PolicyRow → List ℕ → Found
+matchFrom n d [] vs = Nothing
+matchFrom n d (r ∷ rs) vs = cond (matches d r vs) (Row n) (matchFrom (suc n) d rs vs)
+
 -- The normal form of a policy for one direction, over fields of these sizes: discard makes no row.
-abbrev pub policyNormalForm : List ℕ → Direction → List PolicyRow → List (Row Action)
+abbrev pub policyNormalForm : List ℕ → Direction → List PolicyRow → List (LeafRow Action)
 policyNormalForm sizes d rows = normalForm action-≟ Discard sizes (orderedSearch d rows)
 
 -- 'Searching a normal form is the ordered search of its rows, read as a policy': each row is one for that direction.
-abbrev pub asRow : Direction → Row Action → PolicyRow
+abbrev pub asRow : Direction → LeafRow Action → PolicyRow
 asRow d r = record { direction = Only d; action = r .leaf; ranges = r .ranges }
 
-abbrev pub asPolicy : Direction → List (Row Action) → List PolicyRow
+abbrev pub asPolicy : Direction → List (LeafRow Action) → List PolicyRow
 asPolicy d rows = map (asRow d) rows

@@ -5,7 +5,7 @@ ghost use lib.ListN.{length};
 ghost use Rattle.selectors.specs.Value.{number, combination};
 ghost use Rattle.selectors.specs.Range.{contains};
 ghost use Rattle.normal_form.specs.Search.{holds};
-ghost use Rattle.policy.specs.Policy.{appliesTo, matches, orderedSearch};
+ghost use Rattle.policy.specs.Policy.{appliesTo, matches, matchFrom, orderedSearch};
 ghost use Rattle.policy.specs.Words.{directionOf, actionOf, valueAt, rangeAt, rangesAt, rowAt, policyRows};
 use selectors::AddressRange;
 use selectors::Direction;
@@ -33,25 +33,21 @@ pub const ROW_WORDS: usize = 22;
 pub fn direction_of(word: u64) -> RowDirection
     ensures { λ r. ⌜ r ≡ directionOf word ⌝ }
 {
-    if word == 1 {
-        return RowDirection::Only(Direction::Out);
+    match word {
+        1 => RowDirection::Only(Direction::Out),
+        2 => RowDirection::Only(Direction::In),
+        _ => RowDirection::Both,
     }
-    if word == 2 {
-        return RowDirection::Only(Direction::In);
-    }
-    RowDirection::Both
 }
 
 pub fn action_of(word: u64) -> Action
     ensures { λ r. ⌜ r ≡ actionOf word ⌝ }
 {
-    if word == 0 {
-        return Action::Discard;
+    match word {
+        0 => Action::Discard,
+        1 => Action::Bypass,
+        _ => Action::Protect(word - 2),
     }
-    if word == 1 {
-        return Action::Bypass;
-    }
-    Action::Protect(word - 2)
 }
 
 fn same_direction(a: Direction, b: Direction) -> bool
@@ -149,18 +145,33 @@ fn row_matches(rows: &[u64], at: usize, direction: Direction, selectors: Selecto
     ranges_hold(rows, at + 2, selectors)
 }
 
-// The ordered search: the action of the first row for the direction that holds the values, and discard where there is none.
-pub fn search(rows: &[u64], direction: Direction, selectors: Selectors) -> Action
-    ensures { λ r. ⌜ r ≡ orderedSearch direction (policyRows (now (rows .entry))) (combination selectors) ⌝ }
+// The first row for the direction that holds the values.
+pub enum Found {
+    Row(usize),
+    Nothing,
+}
+
+pub fn first_match(rows: &[u64], direction: Direction, selectors: Selectors) -> Found
+    ensures { λ r. ⌜ r ≡ matchFrom 0 direction (policyRows (now (rows .entry))) (combination selectors) ⌝ }
 {
     let count = rows.len() / ROW_WORDS;
     let mut row: usize = 0;
     while row < count {
-        let at = row * ROW_WORDS;
-        if row_matches(rows, at, direction, selectors) {
-            return action_of(rows[at + 1]);
+        if row_matches(rows, row * ROW_WORDS, direction, selectors) {
+            return Found::Row(row);
         }
         row += 1;
     }
-    Action::Discard
+    Found::Nothing
+}
+
+// The ordered search: the action of the first match, and discard where there is none.
+pub fn search(rows: &[u64], direction: Direction, selectors: Selectors) -> Action
+    ensures { λ r. ⌜ r ≡ orderedSearch direction (policyRows (now (rows .entry))) (combination selectors) ⌝ }
+{
+    let found = first_match(rows, direction, selectors);
+    let Found::Row(row) = found else {
+        return Action::Discard;
+    };
+    action_of(rows[row * ROW_WORDS + 1])
 }

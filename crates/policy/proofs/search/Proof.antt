@@ -1,90 +1,76 @@
--- `policy::search` meets its contract. The loop's invariant: the search of all rows is the search of the rows from `row` on.
--- The measure is the count of those. Assumes nothing.
-use Prim.Native.Nat.{_≤_, _-_}
-use native.Mathlib.Nat.{sub-zero}
-use mathlib.Core.Path.{_≡_, sym, _∙_}
-use denote.Ref.{now}
-use Rattle.selectors.specs.Value.{combination}
-use Rattle.policy.specs.Policy.{orderedSearch}
-use Rattle.policy.specs.Words.{rowsFrom, policyRows}
-use Rattle.policy.specs.WordsLaws.{search-found, search-passed, search-ended}
+-- `policy::search` meets its contract: the action of the first match, if there is one. Assumes nothing.
+use Prim.Native.Nat.{_<_, _/_}
+use native.Mathlib.Omega.{arith}
+use mathlib.Core.Path.{sym, _∙_, ap}
 use borrow.Author.Needs.{needs}
+use denote.Ref.{now}
+use lib.ListN.{length}
+use Rattle.selectors.specs.Value.{combination}
+use Rattle.policy.specs.Words.{rowWords}
+use Rattle.policy.specs.WordsLaws.{actionFound, search-match, match-bound}
 use Rattle.policy.proofs.search.Statement.{statement}
 use Rattle.policy.proofs.search.Tie as tie
 
-abbrev Inv-loop : tie.InvT-loop
-Inv-loop rows direction selectors count row₀ row =
-    (row ≤ count)
-    × (orderedSearch direction (policyRows rows) (combination selectors) ≡ orderedSearch direction (rowsFrom rows row (count - row)) (combination selectors))
+first-match-requires : tie.Need-first-match-requires
+first-match-requires c κs = search needs
 
-abbrev μ-loop : tie.MeasureT-loop
-μ-loop rows direction selectors count row₀ row = count - row
+enum-known-found : tie.Need-enum-known-found
+enum-known-found c = search needs
 
-loop-holds : tie.Need-loop-holds Inv-loop μ-loop
-loop-holds c = (search needs, rw sub-zero)
+enum-told : tie.Need-enum-told
+enum-told c = search needs
 
-mul-at : tie.Need-mul-at Inv-loop μ-loop
-mul-at c = search needs
-
-row-matches-requires : tie.Need-row-matches-requires Inv-loop μ-loop
-row-matches-requires c κs = search needs
-
-add-action-of : tie.Need-add-action-of Inv-loop μ-loop
-add-action-of c = search needs
-
-mul-action-of : tie.Need-mul-action-of Inv-loop μ-loop
-mul-action-of c = search needs
-
-shared-slice-read-action-of : tie.Need-shared-slice-read-action-of Inv-loop μ-loop
-shared-slice-read-action-of c = search needs
-
-action-of-requires : tie.Need-action-of-requires Inv-loop μ-loop
-action-of-requires c κs = search needs
-
-returns : tie.Need-returns Inv-loop μ-loop
-returns c =
-    let s = c .before .before .before .before .before .before .before in
-    c .action-of .ensures
-    ∙ sym (search-found (s .args .direction) (now (s .args .rows)) (combination (s .args .selectors)) (c .before .before .before .before .before .loop .row) _ (search needs)
-    (sym (c .before .before .before .row-matches .ensures) ∙ c .before .before .if1 .taken))
-    ∙ sym (c .before .before .before .before .before .loop .inv .1)
-
-add-row : tie.Need-add-row Inv-loop μ-loop
-add-row c = search needs
-
-loop-less : tie.Need-loop-less Inv-loop μ-loop
-loop-less c = search needs
-
-loop-again : tie.Need-loop-again Inv-loop μ-loop
-loop-again c =
-    let s = c .before .before .before .before .before in (
-      search needs,
-      c .before .before .before .loop .inv .1
-          ∙ search-passed (s .args .direction) (now (s .args .rows)) (combination (s .args .selectors)) (c .before .before .before .loop .row) _ (search needs)
-          (sym (c .before .row-matches .ensures) ∙ c .if1 .left),
+-- A match is one of the rows.
+found-row : (c : tie.After-known-told) → c .before .found .given .0 .0 < length (now (c .before .before .before .before .before .args .rows)) / rowWords
+found-row c =
+    let s = c .before .before .before .before .before in
+    omega (
+      arith,
+      match-bound (s .args .direction) (now (s .args .rows)) (combination (s .args .selectors)) 0 _ _
+          (sym (c .before .before .before .first-match .ensures) ∙ c .before .found .given .1),
     )
 
-returns-2 : tie.Need-returns-2 Inv-loop μ-loop
+returns : tie.Need-returns
+unfolding actionFound
+returns c =
+    let s = c .before .before .before .before in
+    sym (search-match (s .args .direction) (now (s .args .rows)) (combination (s .args .selectors)) 0 _
+    ∙ ap (actionFound (now (s .args .rows))) (sym (c .before .before .first-match .ensures) ∙ c .enum-told .given .1))
+
+mul-action-of : tie.Need-mul-action-of
+mul-action-of c = let h = found-row c in search needs
+
+add-action-of : tie.Need-add-action-of
+add-action-of c = let h = found-row c in search needs
+
+mul-action-of-2 : tie.Need-mul-action-of-2
+mul-action-of-2 c = let h = found-row c in search needs
+
+shared-slice-read-action-of : tie.Need-shared-slice-read-action-of
+shared-slice-read-action-of c = let h = found-row (c .before) in search needs
+
+action-of-requires : tie.Need-action-of-requires
+action-of-requires c κs = search needs
+
+returns-2 : tie.Need-returns-2
+unfolding actionFound
 returns-2 c =
-    let s = c .before .before .before in
-    sym (c .before .loop .inv .1
-    ∙ search-ended (s .args .direction) (now (s .args .rows)) (combination (s .args .selectors)) (c .before .loop .row) _ (search needs))
+    let s = c .before .before .before .before .before .before .before in
+    c .action-of .ensures
+    ∙ sym (search-match (s .args .direction) (now (s .args .rows)) (combination (s .args .selectors)) 0 _
+    ∙ ap (actionFound (now (s .args .rows))) (sym (c .before .before .before .before .before .first-match .ensures) ∙ c .before .before .before .found .given .1))
 
 pub search-spec : {M : Type 1} → statement M
 search-spec =
     tie.close
     (tie.spec
-    Inv-loop
-    μ-loop
-    loop-holds
-    mul-at
-    row-matches-requires
-    add-action-of
+    first-match-requires
+    enum-known-found
+    enum-told
+    returns
     mul-action-of
+    add-action-of
+    mul-action-of-2
     shared-slice-read-action-of
     action-of-requires
-    returns
-    add-row
-    loop-less
-    loop-again
     returns-2)
