@@ -1,0 +1,5 @@
+pub mod Header
+pub mod Read
+pub mod Steps
+pub mod ReadLaws
+pub mod Cases
