@@ -1,0 +1,106 @@
+//! The program as it is called.
+
+use std::io::Write;
+use std::process::{Command, Output, Stdio};
+
+fn replay(arguments: &[&str], input: &str) -> Output {
+    let mut child = Command::new(env!("CARGO_BIN_EXE_replay"))
+        .args(arguments)
+        .stdin(Stdio::piped())
+        .stdout(Stdio::piped())
+        .stderr(Stdio::piped())
+        .spawn()
+        .unwrap();
+    let mut stdin = child.stdin.take().unwrap();
+    let input = input.to_string();
+    // Beside the reading, as both pipes may fill. A program that stops at its arguments does not
+    // read its input, so writing may fail.
+    let writing = std::thread::spawn(move || drop(stdin.write_all(input.as_bytes())));
+    let output = child.wait_with_output().unwrap();
+    writing.join().unwrap();
+    output
+}
+
+fn text(bytes: &[u8]) -> &str {
+    std::str::from_utf8(bytes).unwrap()
+}
+
+#[track_caller]
+fn check(output: &Output, status: i32, stdout: &str, in_stderr: &str) {
+    assert_eq!(output.status.code(), Some(status), "{}", text(&output.stderr));
+    assert_eq!(text(&output.stdout), stdout);
+    assert!(text(&output.stderr).contains(in_stderr), "{}", text(&output.stderr));
+}
+
+#[test]
+fn standard_input_and_bad_lines() {
+    let scenario = "# a comment\n\ngate 1 2\n= something\nnonsense\nout 45\n";
+    let output = replay(&["--engine", "reference"], scenario);
+    check(&output, 1, "= ok\n= bad operation\n= 10\n", "1 lines are no operation");
+    let output = replay(&["--engine", "reference"], "gate 1 2\nout -");
+    check(&output, 0, "= ok\n= 10\n", "");
+    let output = replay(&["--engine", "core"], "gate 1 2\nout -\n");
+    check(&output, 0, "= not here\n= not here\n", "");
+}
+
+#[test]
+fn each_file_is_a_scenario_of_its_own() {
+    let folder = std::env::temp_dir().join(format!("replay-test-{}", std::process::id()));
+    std::fs::create_dir_all(&folder).unwrap();
+    let file = folder.join("scenario.txt");
+    let add = "add 50 256 256 1 4 0 0 0 0 0 0 0 0 0 0\n";
+    std::fs::write(&file, add).unwrap();
+    let name = file.to_str().unwrap();
+    check(&replay(&["--engine", "reference", name, name], ""), 0, "= 5\n= 5\n", "");
+    std::fs::remove_dir_all(&folder).unwrap();
+    check(&replay(&["--engine", "reference", name], ""), 2, "", "scenario.txt");
+}
+
+#[test]
+fn coverage_line() {
+    let output = replay(&["--engine", "reference", "--coverage"], "out -\nin -\npolicy -\n");
+    check(&output, 0, "= 10\n= 10\n= 23\n", "coverage: 0=0 1=0");
+    assert!(text(&output.stderr).contains(" 10=2 ") && text(&output.stderr).contains(" 23=1 "));
+}
+
+#[test]
+fn comparing_needs_the_core() {
+    check(&replay(&["--compare"], "out -\n"), 2, "", "core is not here");
+}
+
+#[test]
+fn generated_scenarios_can_be_run() {
+    let generated = replay(&["--generate", "all", "--seed", "3", "--ops", "500"], "");
+    assert_eq!(generated.status.code(), Some(0));
+    let scenario = text(&generated.stdout);
+    let run = replay(&["--engine", "reference"], scenario);
+    assert_eq!(run.status.code(), Some(0));
+    assert_eq!(text(&run.stdout).lines().count(), 500);
+    let generated = replay(&["--generate", "packets", "--ops", "2", "--items", "2,7"], "");
+    assert_eq!(text(&generated.stdout).lines().nth(1), Some("items 2 7"));
+}
+
+#[test]
+fn arguments() {
+    let help = replay(&["--help"], "");
+    assert_eq!(help.status.code(), Some(0));
+    assert!(text(&help.stdout).contains("--generate KIND"));
+    let bad: [&[&str]; 13] = [
+        &[],
+        &["--engine"],
+        &["--engine", "other"],
+        &["--engine", "core", "--compare"],
+        &["--engine", "reference", "--engine", "core"],
+        &["--generate", "nonsense"],
+        &["--generate", "all", "--seed", "x"],
+        &["--generate", "all", "--engine", "reference"],
+        &["--engine", "reference", "--seed", "1"],
+        &["--generate", "all", "file"],
+        &["--generate", "all", "--items", "2,x"],
+        &["--engine", "reference", "--items", "2"],
+        &["--nonsense"],
+    ];
+    for arguments in bad {
+        check(&replay(arguments, ""), 2, "", "replay: ");
+    }
+}

@@ -1,0 +1,58 @@
+//! Comparing must find a wrong engine, and must find it at the right line.
+
+use replay::coverage::Coverage;
+use replay::engine::{Engine, EngineName};
+use replay::generate::{generate, Kind, Recipe};
+use replay::operation::Operation;
+use replay::reply::{AnswerLine, Reply};
+use replay::run::{run_engines, Difference, End};
+
+/// The reference with one defect: it lets packets through that should be protected.
+struct Faulty(Box<dyn Engine>);
+
+impl Engine for Faulty {
+    fn run(&mut self, operation: &Operation) -> Reply {
+        match self.0.run(operation) {
+            Reply::Answer(answer) if answer.number == 12 => {
+                Reply::Answer(AnswerLine { number: 0, ..answer })
+            }
+            reply => reply,
+        }
+    }
+}
+
+fn compare(scenario: &str, core: &mut dyn Engine) -> (End, String) {
+    let mut reference = EngineName::Reference.start();
+    let (mut output, mut coverage) = (Vec::new(), Coverage::new());
+    let end =
+        run_engines(scenario.as_bytes(), &mut *reference, Some(core), &mut output, &mut coverage);
+    (end.unwrap(), String::from_utf8(output).unwrap())
+}
+
+fn scenario() -> String {
+    let mut text = Vec::new();
+    generate(&Recipe::new(Kind::All, 1, 5_000), &mut text).unwrap();
+    String::from_utf8(text).unwrap()
+}
+
+#[test]
+fn equal_engines_agree_to_the_end() {
+    let (end, output) = compare(&scenario(), &mut *EngineName::Reference.start());
+    assert_eq!(end, End::Finished { bad_operations: 0 });
+    assert_eq!(output.lines().count(), 5_000);
+}
+
+#[test]
+fn a_faulty_engine_is_found_where_it_errs() {
+    let scenario = scenario();
+    let mut faulty = Faulty(EngineName::Reference.start());
+    let (end, output) = compare(&scenario, &mut faulty);
+    let End::Differs(Difference { line_number, operation, core, reference }) = end else {
+        panic!("the fault was not found");
+    };
+    assert_eq!((core.as_str(), reference.as_str()), ("= 0", "= 12"));
+    assert_eq!(scenario.lines().nth(line_number - 1), Some(operation.as_str()));
+    // The comment line has no answer, and neither has the line that differs.
+    assert_eq!(output.lines().count(), line_number - 2);
+    assert!(!output.lines().any(|line| line == "= 12"));
+}
