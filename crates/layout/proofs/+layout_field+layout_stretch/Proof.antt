@@ -1,0 +1,328 @@
+-- `layout::layout_field` and `layout::layout_stretch` meet their contracts. The measure falls with the fields left; a stretch has one less than
+-- its field. The loop's invariant: the rows so far are the loop's progress at `from` (specs/Progress.antt), within the limit. Its measure is
+-- what is left of the field. Assumes nothing.
+use Prim.Native.Nat.{ℕ, _<_, _≤_, _-_, _*_, _+_, _^_}
+use native.Mathlib.Omega.{arith}
+use mathlib.Core.Path.{_≡_, refl, sym, _∙_, ap}
+use lib.ListN.{length-set, length}
+use denote.Enum.Declared.{tagOf}
+use denote.Ref.{now}
+use borrow.Author.Tests.{ltb-true, ltb-false, not-true, not-false}
+use borrow.Rule.Slice.PartMut.{putMid, same-len-mid}
+use borrow.Author.Needs.{needs}
+use borrow.Fn.Kinds.{In}
+use borrow.Fn.PlainCycle.{Measures, is, falls, and}
+use Rattle.selectors.specs.ValueLaws.{Words, number-bound}
+use Rattle.selectors.specs.Value.{number}
+use Rattle.selectors.proofs.Value.less.Reads as less-reads
+use Rattle.selectors.proofs.Value.next.Reads as next-reads
+use Rattle.layout.specs.FormLaws.{values-length}
+use Rattle.layout.specs.StepsLaws.{words-next}
+use Rattle.layout.specs.Decode.{valuesFrom}
+use Rattle.layout.specs.Progress.{Progress, progress-start, over-behind, over-so-far, laid-out, laid-count, laid-last, laid-field, Room, room-for, laid-else, turn-lent, one-more}
+use Rattle.layout.proofs.Laid.{the-type}
+use Rattle.layout.proofs.+layout_field+layout_stretch.{statement}
+use Rattle.layout.proofs.+layout_field+layout_stretch.Tie.{close}
+use Rattle.layout.proofs.layout_field.Reads as layout-field
+use Rattle.layout.proofs.layout_field.Kinds as layout-field-kinds
+use Rattle.layout.proofs.+layout_field+layout_stretch.Lts-layout_field as layout-field-lts
+use Rattle.layout.proofs.layout_stretch.Reads as layout-stretch
+use Rattle.layout.proofs.layout_stretch.Kinds as layout-stretch-kinds
+use Rattle.layout.proofs.+layout_field+layout_stretch.Lts-layout_stretch as layout-stretch-lts
+use Rattle.layout.proofs.interval_end.Reads as interval-end-reads
+use Rattle.layout.proofs.leaf.Reads as leaf-reads
+use Rattle.layout.proofs.place.Reads as place-reads
+use Rattle.layout.proofs.point_value.Reads as point-value-reads
+use Rattle.layout.proofs.stamp.Reads as stamp-reads
+use Rattle.layout.proofs.with_value.Reads as with-value-reads
+
+abbrev μ-layout-field : Measures 3 layout-field-kinds.ps ℕ
+μ-layout-field κs a = 11 - 2 * a .1 .1 .1 .1 .0
+
+abbrev μ-layout-stretch : Measures 3 layout-stretch-kinds.ps ℕ
+μ-layout-stretch κs a = 10 - 2 * a .1 .1 .1 .1 .0
+
+abbrev layout-field-at : ℕ → In 3 layout-field-kinds.ps
+layout-field-at t =
+    and 3 layout-field-kinds.ps (is 3 layout-field-kinds.ps μ-layout-field t) layout-field.Pre
+
+abbrev layout-field-below : ℕ → In 3 layout-field-kinds.ps
+layout-field-below t =
+    and
+    3
+    layout-field-kinds.ps
+    (falls 3 layout-field-kinds.ps _<_ μ-layout-field t)
+    layout-field.Pre
+
+abbrev layout-stretch-at : ℕ → In 3 layout-stretch-kinds.ps
+layout-stretch-at t =
+    and
+    3
+    layout-stretch-kinds.ps
+    (is 3 layout-stretch-kinds.ps μ-layout-stretch t)
+    layout-stretch.Pre
+
+abbrev layout-stretch-below : ℕ → In 3 layout-stretch-kinds.ps
+layout-stretch-below t =
+    and
+    3
+    layout-stretch-kinds.ps
+    (falls 3 layout-stretch-kinds.ps _<_ μ-layout-stretch t)
+    layout-stretch.Pre
+
+-- What the functions that each one calls ask and tell.
+abbrev layout-field-claims : ℕ → layout-field-lts.Claims
+layout-field-claims t = (
+  point-value-reads.Asked,
+  point-value-reads.Learnt,
+  interval-end-reads.Asked,
+  interval-end-reads.Learnt,
+  layout-stretch-below t,
+  layout-stretch.Post,
+  place-reads.Asked,
+  place-reads.Learnt,
+  less-reads.Asked,
+  less-reads.Learnt,
+  stamp-reads.Asked,
+  stamp-reads.Learnt,
+  next-reads.Asked,
+  next-reads.Learnt,
+)
+
+abbrev layout-stretch-claims : ℕ → layout-stretch-lts.Claims
+layout-stretch-claims t = (
+  with-value-reads.Asked,
+  with-value-reads.Learnt,
+  leaf-reads.Asked,
+  leaf-reads.Learnt,
+  layout-field-below t,
+  layout-field.Post,
+)
+
+abbrev layout-field-Inv-loop : layout-field-lts.InvT-loop
+layout-field-Inv-loop first second task point field room₀ direction top kept₀ from₀ room kept from =
+    (length room ≡ length room₀)
+    × ((kept .next ≤ task .limit)
+    × ((number from ≤ number top) × Progress first second task (valuesFrom (point .words) 0 field) field room kept (number from)))
+
+abbrev layout-field-μ-loop : layout-field-lts.MeasureT-loop
+layout-field-μ-loop first second task point field room₀ direction top kept₀ from₀ room kept from =
+    number top - number from
+
+-- The places of a turn: where it begins, and after the calls.
+abbrev Begun : ℕ → Type 0
+Begun t = layout-field-lts.At-loop (layout-field-claims t) (layout-field-at t) layout-field.Post layout-field-Inv-loop layout-field-μ-loop
+
+abbrev Stretched : ℕ → Type 0
+Stretched t = layout-field-lts.After-layout-stretch (layout-field-claims t) (layout-field-at t) layout-field.Post layout-field-Inv-loop layout-field-μ-loop
+
+abbrev Placed : ℕ → Type 0
+Placed t = layout-field-lts.After-place (layout-field-claims t) (layout-field-at t) layout-field.Post layout-field-Inv-loop layout-field-μ-loop
+
+abbrev Gone : ℕ → Type 0
+Gone t = layout-field-lts.After-next (layout-field-claims t) (layout-field-at t) layout-field.Post layout-field-Inv-loop layout-field-μ-loop
+
+-- The part of the room behind the rows so far.
+room : (t : ℕ) (c : Begun t) → Room (c .before .before .before .before .before .before .args .task .limit) (c .before .before .before .before .before .before .args .field) (c .loop .kept .next * 22) (c .loop .room)
+room t c = let s = c .before .before .before .before .before .before in room-for _ _ _ _ _ (s .pre .1 .0 .0) (c .loop .inv .1 .0) (s .pre .1 .1) (c .loop .inv .0)
+
+-- The room is as long as before when that part is back.
+back : (t : ℕ) (c : Stretched t)
+    → length (putMid (c .before .before .before .before .loop .kept .next * 22) (length (c .before .before .before .before .loop .room) - c .before .before .before .before .loop .kept .next * 22) (c .before .before .before .before .loop .room) (c .layout-stretch .last .1 .1 .1 .1 .1 .1 .0))
+    ≡ length (c .before .before .before .before .loop .room)
+back t c =
+    let l = c .before .before .before .before .loop in
+    same-len-mid (l .kept .next * 22) (length (l .room) - l .kept .next * 22) (l .room) (c .layout-stretch .last .1 .1 .1 .1 .1 .1 .0)
+    (c .layout-stretch .kept .1 .1 .1 .1 .1 .1 .0)
+
+-- After `place` the loop has come to the value behind the interval.
+placed : (t : ℕ) (c : Placed t)
+    → (let s = c .before .before .before .before .before .before .before .before .before .before .before .before .before .before .before .before .before in
+    Progress (now (s .args .first)) (now (s .args .second)) (s .args .task) (valuesFrom (s .args .point .words) 0 (s .args .field)) (s .args .field)
+    (c .place .last .0) (c .place .result) (number (c .before .before .before .before .before .before .before .before .before .before .interval-end .result) + 1))
+placed t c =
+    let y = c .before .before .before .before .before .before .before in
+    let e = y .before .before .before .interval-end .ensures in
+    let l = y .before .before .before .before in
+    let s = l .before .before .before .before .before .before in
+    let r = room t l in
+    turn-lent _ _ _ _ _ (s .pre .1 .0 .0) (values-length _ 0 _) _ _ (e .reaches) (e .alike) _ _ _ _ _ _ (s .args .task .limit) _ (l .loop .inv .1 .1 .1) (omega arith)
+    (rw (y .layout-stretch .kept .1 .1 .1 .1 .1 .1 .0) (r .enough)) _ (c .before .before .before .laid .given .1) (y .layout-stretch .ensures) (c .place .ensures)
+
+-- The next turn's first value is one more than the interval's last, which is below the field's highest.
+further : (t : ℕ) (c : Gone t)
+    → (let i = c .before .before .before .before .before .before .before .before .before .before .before .before .before .before .before .before .before in
+    (number (c .next .result) ≡ number (i .interval-end .result) + 1) × (number (i .interval-end .result) < number (i .before .before .point-value .result)))
+further t c =
+    let i = c .before .before .before .before .before .before .before .before .before .before .before .before .before .before .before .before .before in
+    let v = i .before .before .point-value in
+    let b : Words (v .result) = record { upper-fits = omega (arith, v .ok); lower-fits = omega (arith, v .ok) } in
+    let w = number-bound (v .result) b in
+    let g = ltb-true (number (i .interval-end .result)) (number (v .result)) (sym (c .before .before .less .ensures) ∙ not-false _ (c .before .if2 .left)) in
+    (one-more (2 ^ 128) _ _ _ (c .next .ensures) g w, g)
+
+layout-field-point-value-requires : (t : ℕ) → layout-field-lts.Need-point-value-requires (layout-field-claims t) (layout-field-at t) layout-field.Post layout-field-Inv-loop layout-field-μ-loop
+layout-field-point-value-requires t c κs = search needs
+
+layout-field-loop-holds : (t : ℕ) → layout-field-lts.Need-loop-holds (layout-field-claims t) (layout-field-at t) layout-field.Post layout-field-Inv-loop layout-field-μ-loop
+unfolding number
+layout-field-loop-holds t c = (search needs, (search needs, (omega arith, progress-start _ _ _ _ _ _ _ _ refl refl refl)))
+
+layout-field-interval-end-requires : (t : ℕ) → layout-field-lts.Need-interval-end-requires (layout-field-claims t) (layout-field-at t) layout-field.Post layout-field-Inv-loop layout-field-μ-loop
+layout-field-interval-end-requires t c κs = search needs
+
+layout-field-mul-base : (t : ℕ) → layout-field-lts.Need-mul-base (layout-field-claims t) (layout-field-at t) layout-field.Post layout-field-Inv-loop layout-field-μ-loop
+layout-field-mul-base t c = let r = room t (c .before .before) in omega arith
+
+layout-field-mul-layout-stretch : (t : ℕ) → layout-field-lts.Need-mul-layout-stretch (layout-field-claims t) (layout-field-at t) layout-field.Post layout-field-Inv-loop layout-field-μ-loop
+layout-field-mul-layout-stretch t c = let r = room t (c .before .before) in omega arith
+
+layout-field-sub-layout-stretch : (t : ℕ) → layout-field-lts.Need-sub-layout-stretch (layout-field-claims t) (layout-field-at t) layout-field.Post layout-field-Inv-loop layout-field-μ-loop
+layout-field-sub-layout-stretch t c = let r = room t (c .before .before) in omega arith
+
+layout-field-part-layout-stretch-start : (t : ℕ) → layout-field-lts.Need-part-layout-stretch-start (layout-field-claims t) (layout-field-at t) layout-field.Post layout-field-Inv-loop layout-field-μ-loop
+layout-field-part-layout-stretch-start t c = let r = room t (c .before .before) in omega arith
+
+layout-field-part-layout-stretch-end : (t : ℕ) → layout-field-lts.Need-part-layout-stretch-end (layout-field-claims t) (layout-field-at t) layout-field.Post layout-field-Inv-loop layout-field-μ-loop
+layout-field-part-layout-stretch-end t c = search needs
+
+layout-field-layout-stretch-requires : (t : ℕ) → layout-field-lts.Need-layout-stretch-requires (layout-field-claims t) (layout-field-at t) layout-field.Post layout-field-Inv-loop layout-field-μ-loop
+layout-field-layout-stretch-requires t c κs =
+    let l = c .before .before .before in
+    let s = l .before .before .before .before .before .before in
+    (omega (arith, s .pre .0, s .pre .1 .0 .0), (s .pre .1 .0, room t l .behind))
+
+layout-field-enum-known-laid : (t : ℕ) → layout-field-lts.Need-enum-known-laid (layout-field-claims t) (layout-field-at t) layout-field.Post layout-field-Inv-loop layout-field-μ-loop
+layout-field-enum-known-laid t c = search needs
+
+layout-field-same-length : (t : ℕ) → layout-field-lts.Need-same-length (layout-field-claims t) (layout-field-at t) layout-field.Post layout-field-Inv-loop layout-field-μ-loop
+layout-field-same-length t c = search needs
+
+layout-field-returns : (t : ℕ) → layout-field-lts.Need-returns (layout-field-claims t) (layout-field-at t) layout-field.Post layout-field-Inv-loop layout-field-μ-loop
+layout-field-returns t c =
+    let y = c .before .before .before in
+    let l = y .before .before .before .before in
+    let s = l .before .before .before .before .before .before in
+    over-behind (now (s .args .first)) (now (s .args .second)) (s .args .task) (valuesFrom (s .args .point .words) 0 (s .args .field)) (s .args .field) (s .pre .1 .0 .0)
+    (s .args .task .limit) (number (l .loop .from)) (omega (arith, l .loop .inv .1 .1 .0, ap number (l .before .point-value .ensures)))
+    (laid-else _ _ _ _ _ (tagOf the-type) (λ m. refl) _ (y .layout-stretch .ensures) (c .match .keys2)) _
+
+layout-field-place-requires : (t : ℕ) → layout-field-lts.Need-place-requires (layout-field-claims t) (layout-field-at t) layout-field.Post layout-field-Inv-loop layout-field-μ-loop
+layout-field-place-requires t c κs =
+    let y = c .before .before .before .before .before .before in
+    let l = y .before .before .before .before in
+    let s = l .before .before .before .before .before .before in
+    let r = room t l in
+    let n = laid-count (s .args .task .limit) _ _ _ _ _ _ (c .before .before .laid .given .1) (y .layout-stretch .ensures) .0 in
+    (s .pre .1 .0 .0, (l .loop .inv .1 .1 .1 .ordered, rw (back t y) (omega arith)))
+
+layout-field-same-length-2 : (t : ℕ) → layout-field-lts.Need-same-length-2 (layout-field-claims t) (layout-field-at t) layout-field.Post layout-field-Inv-loop layout-field-μ-loop
+layout-field-same-length-2 t c = search needs
+
+layout-field-returns-2 : (t : ℕ) → layout-field-lts.Need-returns-2 (layout-field-claims t) (layout-field-at t) layout-field.Post layout-field-Inv-loop layout-field-μ-loop
+layout-field-returns-2 t c =
+    let p = c .before .before .before .before in
+    let i = p .before .before .before .before .before .before .before .before .before .before in
+    over-so-far _ _ _ _ _ (p .before .before .before .before .before .before .before .before .before .before .before .before .before .before .before .before .before .pre .1 .0 .0) _ _ _ _ (placed t p) (omega (arith, i .interval-end .ensures .within, ap number (i .before .before .point-value .ensures))) (c .if1 .taken) _
+
+layout-field-less-requires : (t : ℕ) → layout-field-lts.Need-less-requires (layout-field-claims t) (layout-field-at t) layout-field.Post layout-field-Inv-loop layout-field-μ-loop
+layout-field-less-requires t c κs = search needs
+
+layout-field-stamp-requires : (t : ℕ) → layout-field-lts.Need-stamp-requires (layout-field-claims t) (layout-field-at t) layout-field.Post layout-field-Inv-loop layout-field-μ-loop
+layout-field-stamp-requires t c κs =
+    let p = c .before .before .before .before .before .before .before in
+    let r = room t (p .before .before .before .before .before .before .before .before .before .before .before) in
+    (p .before .before .before .before .before .before .before .before .before .before .before .before .before .before .before .before .before .pre .1 .0 .0, (placed t p .ordered, omega (arith, c .before .before .before .if1 .left, p .place .kept .0, back t (p .before .before .before .before .before .before .before))))
+
+layout-field-same-length-3 : (t : ℕ) → layout-field-lts.Need-same-length-3 (layout-field-claims t) (layout-field-at t) layout-field.Post layout-field-Inv-loop layout-field-μ-loop
+layout-field-same-length-3 t c =
+    let p = c .before .before .before .before .before .before .before .before .before .before in c .before .before .stamp .kept .0 ∙ p .place .kept .0 ∙ back t (p .before .before .before .before .before .before .before) ∙ p .before .before .before .before .before .before .before .before .before .before .before .loop .inv .0
+
+layout-field-returns-3 : (t : ℕ) → layout-field-lts.Need-returns-3 (layout-field-claims t) (layout-field-at t) layout-field.Post layout-field-Inv-loop layout-field-μ-loop
+layout-field-returns-3 t c =
+    let p = c .before .before .before .before .before .before .before .before .before .before in
+    let i = p .before .before .before .before .before .before .before .before .before .before .interval-end in
+    let v = p .before .before .before .before .before .before .before .before .before .before .before .before .point-value in
+    let g = ltb-false (number (i .result)) (number (v .result)) (sym (c .before .before .before .before .before .less .ensures) ∙ not-true _ (c .before .before .before .before .if2 .taken)) in
+    let e : number (i .result) ≡ number (v .result) = omega (arith, i .ensures .within) in
+    laid-out _ _ _ _ _ (p .before .before .before .before .before .before .before .before .before .before .before .before .before .before .before .before .before .pre .1 .0 .0) _ _ _ _ _ (ap number (v .ensures)) (rw e at (placed t p)) (c .before .before .before .before .before .before .if1 .left) (c .before .before .stamp .ensures)
+
+layout-field-next-requires : (t : ℕ) → layout-field-lts.Need-next-requires (layout-field-claims t) (layout-field-at t) layout-field.Post layout-field-Inv-loop layout-field-μ-loop
+layout-field-next-requires t c κs = search needs
+
+layout-field-loop-less : (t : ℕ) → layout-field-lts.Need-loop-less (layout-field-claims t) (layout-field-at t) layout-field.Post layout-field-Inv-loop layout-field-μ-loop
+layout-field-loop-less t c =
+    let f = further t c in omega (arith, c .before .before .before .before .before .before .before .before .before .before .before .before .before .before .before .before .before .interval-end .ensures .reaches)
+
+layout-field-loop-again : (t : ℕ) → layout-field-lts.Need-loop-again (layout-field-claims t) (layout-field-at t) layout-field.Post layout-field-Inv-loop layout-field-μ-loop
+layout-field-loop-again t c =
+    let f = further t c in
+    let p = c .before .before .before .before .before .before .before in
+    (p .place .kept .0 ∙ back t (p .before .before .before .before .before .before .before) ∙ p .before .before .before .before .before .before .before .before .before .before .before .loop .inv .0, (c .before .before .before .if1 .left, (omega arith, rw (f .0) (placed t p))))
+
+layout-stretch-with-value-requires : (t : ℕ) → layout-stretch-lts.Need-with-value-requires (layout-stretch-claims t) (layout-stretch-at t) layout-stretch.Post
+layout-stretch-with-value-requires t c κs = search needs
+
+layout-stretch-add-inner : (t : ℕ) → layout-stretch-lts.Need-add-inner (layout-stretch-claims t) (layout-stretch-at t) layout-stretch.Post
+layout-stretch-add-inner t c = search needs
+
+layout-stretch-leaf-requires : (t : ℕ) → layout-stretch-lts.Need-leaf-requires (layout-stretch-claims t) (layout-stretch-at t) layout-stretch.Post
+layout-stretch-leaf-requires t c κs =
+    let s = c .before .before .before .before .before .before in let w = words-next (s .args .task .limit) (s .args .field) (s .pre .1 .0 .0) in omega arith
+
+layout-stretch-same-length : (t : ℕ) → layout-stretch-lts.Need-same-length (layout-stretch-claims t) (layout-stretch-at t) layout-stretch.Post
+layout-stretch-same-length t c = search needs
+
+layout-stretch-returns : (t : ℕ) → layout-stretch-lts.Need-returns (layout-stretch-claims t) (layout-stretch-at t) layout-stretch.Post
+layout-stretch-returns t c = let s = c .before .before .before .before .before .before .before .before .before in
+    laid-last _ _ (s .args .task) _ _ _ _ (s .pre .1 .0 .1) (s .pre .1 .0 .0) (c .before .before .before .before .before .with-value .ensures) _ _ _ (c .before .before .before .before .if1 .taken) (c .before .before .leaf .ensures)
+
+layout-stretch-layout-field-requires : (t : ℕ) → layout-stretch-lts.Need-layout-field-requires (layout-stretch-claims t) (layout-stretch-at t) layout-stretch.Post
+layout-stretch-layout-field-requires t c κs = let s = c .before .before .before .before .before .before in
+    (omega (arith, s .pre .0, s .pre .1 .0 .0), ((omega (arith, s .pre .1 .0 .0, c .before .if1 .left), rw (c .before .before .with-value .ensures) (simp length-set (s .pre .1 .0 .1))), search needs))
+
+layout-stretch-same-length-2 : (t : ℕ) → layout-stretch-lts.Need-same-length-2 (layout-stretch-claims t) (layout-stretch-at t) layout-stretch.Post
+layout-stretch-same-length-2 t c = search needs
+
+layout-stretch-returns-2 : (t : ℕ) → layout-stretch-lts.Need-returns-2 (layout-stretch-claims t) (layout-stretch-at t) layout-stretch.Post
+layout-stretch-returns-2 t c = let s = c .before .before .before .before .before .before .before .before .before in
+    laid-field _ _ (s .args .task) _ _ _ _ (s .pre .1 .0 .1) (s .pre .1 .0 .0) (c .before .before .before .before .before .with-value .ensures) _ _ _ (c .before .before .layout-field .ensures)
+
+pub +layout-field+layout-stretch-spec : {M : Type 1} → statement M
++layout-field+layout-stretch-spec =
+    close μ-layout-field μ-layout-stretch (λ t. layout-field-lts.spec (layout-field-claims t) (layout-field-at t)
+    layout-field.Post
+    layout-field-Inv-loop
+    layout-field-μ-loop
+    (layout-field-point-value-requires t)
+    (layout-field-loop-holds t)
+    (layout-field-interval-end-requires t)
+    (layout-field-mul-base t)
+    (layout-field-mul-layout-stretch t)
+    (layout-field-sub-layout-stretch t)
+    (layout-field-part-layout-stretch-start t)
+    (layout-field-part-layout-stretch-end t)
+    (layout-field-layout-stretch-requires t)
+    (layout-field-enum-known-laid t)
+    (layout-field-same-length t)
+    (layout-field-returns t)
+    (layout-field-place-requires t)
+    (layout-field-same-length-2 t)
+    (layout-field-returns-2 t)
+    (layout-field-less-requires t)
+    (layout-field-stamp-requires t)
+    (layout-field-same-length-3 t)
+    (layout-field-returns-3 t)
+    (layout-field-next-requires t)
+    (layout-field-loop-less t)
+    (layout-field-loop-again t))
+    λ t. layout-stretch-lts.spec (layout-stretch-claims t) (layout-stretch-at t)
+    layout-stretch.Post
+    (layout-stretch-with-value-requires t)
+    (layout-stretch-add-inner t)
+    (layout-stretch-leaf-requires t)
+    (layout-stretch-same-length t)
+    (layout-stretch-returns t)
+    (layout-stretch-layout-field-requires t)
+    (layout-stretch-same-length-2 t)
+    (layout-stretch-returns-2 t)

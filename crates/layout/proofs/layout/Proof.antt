@@ -1,0 +1,24 @@
+-- `layout::layout` meets its contract: the room is measured, and the first field laid out. Assumes nothing.
+use native.Mathlib.Omega.{arith}
+use mathlib.Core.Path.{refl}
+use denote.Ref.{now}
+use borrow.Author.Needs.{needs}
+use Rattle.layout.specs.LaidLaws.{all-words, no-room, laid-all}
+use Rattle.layout.proofs.layout.Statement.{statement}
+use Rattle.layout.proofs.layout.Tie as tie
+
+returns : tie.Need-returns
+returns c = no-room _ _ (now (c .before .before .before .before .args .room)) (omega arith)
+
+layout-field-requires : tie.Need-layout-field-requires
+layout-field-requires c κs = ((search needs, refl), rw (all-words (c .before .before .before .before .before .args .limit)) (omega arith))
+
+same-length : tie.Need-same-length
+same-length c = search needs
+
+returns-2 : tie.Need-returns-2
+returns-2 c = let a = c .before .before .before .before .before .before .before .before .args in
+    laid-all _ _ (record { direction = a .direction; highest = a .highest; limit = a .limit }) _ (now (a .room)) _ _ (omega arith) (c .before .before .layout-field .ensures)
+
+pub layout-spec : {M : Type 1} → statement M
+layout-spec = tie.close (tie.spec returns layout-field-requires same-length returns-2)

@@ -1,0 +1,53 @@
+-- What the words of a room, of a point and of a policy mean, from any field on. Assumes nothing: these are definitions.
+use Prim.Native.Nat.{ℕ, zero, suc, _+_, _*_}
+use mathlib.Core.Bool.{Bool, _&&_}
+use mathlib.Core.List.{List, [], _∷_}
+use lib.ListN.{getD}
+use Rattle.selectors.specs.Range.{Range}
+use Rattle.selectors.specs.Value.{number}
+use Rattle.selectors.specs.declared.Direction.{Direction}
+use Rattle.normal_form.specs.Search.{Row, row, holds}
+use Rattle.policy.specs.Policy.{appliesTo}
+use Rattle.policy.specs.Words.{directionOf, valueAt, rangeAt, rowWords}
+use Rattle.layout.specs.Parting.{Parting, parting}
+
+-- The value of the field f in the words of a point, which has two for each field; and n values from the field f on.
+abbrev pub valueOf : List ℕ → ℕ → ℕ
+valueOf ps f = number (valueAt ps (2 * f))
+
+unfoldable pub valuesFrom : List ℕ → ℕ → ℕ → List ℕ
+valuesFrom ps f zero = []
+valuesFrom ps f (suc n) = valueOf ps f ∷ valuesFrom ps (f + 1) n
+
+-- The sizes of n fields from the field f on, by the highest value of each.
+unfoldable pub sizesFrom : List ℕ → ℕ → ℕ → List ℕ
+sizesFrom hs f zero = []
+sizesFrom hs f (suc n) = (valueOf hs f + 1) ∷ sizesFrom hs (f + 1) n
+
+-- The word at which the range of the field f in the row i begins.
+abbrev pub wordOf : ℕ → ℕ → ℕ
+wordOf i f = i * rowWords + 2 + 4 * f
+
+-- The range of the field f in the row i, and n ranges from there on.
+abbrev pub rangeOf : List ℕ → ℕ → ℕ → Range
+rangeOf ws i f = rangeAt ws (wordOf i f)
+
+unfoldable pub rangesFrom : List ℕ → ℕ → ℕ → ℕ → List Range
+rangesFrom ws i f zero = []
+rangesFrom ws i f (suc n) = rangeOf ws i f ∷ rangesFrom ws i (f + 1) n
+
+-- The row i is for the direction and its first ranges hold the values of the first n fields.
+unfoldable pub active : Direction → List ℕ → ℕ → ℕ → List ℕ → Bool
+active d ws i n vs = appliesTo (directionOf (getD ws (i * rowWords) 0)) d && holds (rangesFrom ws i 0 n) vs
+
+-- The leaf of a row: the second action in its first word, the first action in its second.
+abbrev pub leafOf : List ℕ → ℕ → Parting
+leafOf ws at = parting (getD ws (at + 1) 0) (getD ws at 0)
+
+-- A row of which only the n fields from f on are laid out yet, and c such rows from the row i on.
+unfoldable pub partRow : ℕ → ℕ → List ℕ → ℕ → Row Parting
+partRow f n ws i = row (rangesFrom ws i f n) (leafOf ws (i * rowWords))
+
+unfoldable pub partRows : ℕ → ℕ → List ℕ → ℕ → ℕ → List (Row Parting)
+partRows f n ws i zero = []
+partRows f n ws i (suc c) = partRow f n ws i ∷ partRows f n ws (i + 1) c

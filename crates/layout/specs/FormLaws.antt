@@ -1,0 +1,190 @@
+-- Laws of the form of the fields that are left, behind values of the earlier ones. Assumes nothing.
+use Prim.Native.Nat.{ℕ, zero, suc, _+_, _-_, _*_, _/_, _≤_, _<_}
+use native.Mathlib.Omega.{arith}
+use mathlib.Core.Path.{_≡_, refl, sym, _∙_, ap}
+use mathlib.Core.Bool.{Bool, true, false, _&&_, and-assoc}
+use mathlib.Core.List.{List, [], _∷_, _++_, append-nil, append-assoc}
+use mathlib.Core.Logic.{inl, ⊎-elim}
+use lib.ListN.{length, getD, set, length-set}
+use lib.Seq.{getD-set-same, getD-set-other}
+use borrow.Author.Tests.{eq-eqb, ne-eqb}
+use Rattle.selectors.specs.Range.{Range, contains}
+use Rattle.selectors.specs.Value.{number}
+use Rattle.selectors.specs.declared.Direction.{Direction}
+use Rattle.selectors.specs.declared.Value.{Value}
+use Rattle.normal_form.specs.Search.{row, holds}
+use Rattle.normal_form.specs.NormalForm.{rowsOf, runs, normalForm}
+use Rattle.normal_form.specs.RunsLaws.{runs-ext}
+use Rattle.normal_form.specs.Laws.{leaf-cases, normal-form-ext}
+use Rattle.policy.specs.Policy.{PolicyRow, appliesTo, matches, orderedSearch}
+use Rattle.policy.specs.Words.{actionWord, directionOf, rowAt, rowsFrom, policyRows, rowWords}
+use Rattle.layout.specs.Parting.{parting, parting-≟, agreed, parted, partingAt}
+use Rattle.layout.specs.Decode.{valueOf, valuesFrom, sizesFrom, rangeOf, rangesFrom, active, partRow, partRows}
+use Rattle.layout.specs.DecodeLaws.{value-moved, active-matches}
+use Rattle.layout.specs.Steps.{formBehind, formAt, LaidOut, AlikeTo, AlikeAmong, Outside}
+use Rattle.layout.specs.StepsLaws.{put-value, laid-rows, laid-over}
+use Rattle.layout.specs.declared.Laid.the-variants.{Rows, Over}
+use Rattle.layout.specs.declared.Task.{Task}
+
+-- Behind the last field.
+module _ (d : Direction) (first second : List PolicyRow) (before : List ℕ) (a b : ℕ)
+    (ea : a ≡ actionWord (orderedSearch d first before)) (eb : b ≡ actionWord (orderedSearch d second before)) where
+  leaf-parted : partingAt d first second (before ++ []) ≡ parted a b
+  unfolding partingAt
+  leaf-parted = rw (append-nil, ea, eb)
+
+  leaf-agreed : a ≡ b → formBehind d first second before [] ≡ []
+  leaf-agreed e =
+      let p : partingAt d first second (before ++ []) ≡ agreed = leaf-parted ∙ rw (eq-eqb a b e) in
+      ⊎-elim (λ c. c .1) (λ c. absurd (c .0 p)) (leaf-cases parting-≟ agreed (λ vs. partingAt d first second (before ++ vs)))
+
+  leaf-apart : (a ≡ b → ⊥) → formBehind d first second before [] ≡ row [] (parting a b) ∷ []
+  leaf-apart n =
+      let p : partingAt d first second (before ++ []) ≡ parting a b = leaf-parted ∙ rw (ne-eqb a b n) in
+      ⊎-elim
+      (λ c. absurd (n (apart (sym p ∙ c .0))))
+      (λ c. c .1 ∙ rw p)
+      (leaf-cases parting-≟ agreed (λ vs. partingAt d first second (before ++ vs)))
+    where
+      apart : parting a b ≡ agreed → a ≡ b
+      apart e = let x : a ≡ 0 = λ i. (e i) .first in let y : b ≡ 0 = λ i. (e i) .second in x ∙ sym y
+
+module _ (first second : List ℕ) (task : Task) (before : List ℕ) (a b : ℕ)
+    (ea : a ≡ actionWord (orderedSearch (task .direction) (policyRows first) before))
+    (eb : b ≡ actionWord (orderedSearch (task .direction) (policyRows second) before)) where
+  pub laid-agreed : a ≡ b → (ws : List ℕ) → LaidOut (task .limit) 5 0 (formAt first second task before 5 0) ws (Rows 0)
+  unfolding sizesFrom partRows
+  laid-agreed e ws =
+      laid-rows (task .limit) 5 0 _ ws 0 (sym (leaf-agreed (task .direction) (policyRows first) (policyRows second) before a b ea eb e)) (omega arith)
+
+  pub laid-full : (a ≡ b → ⊥) → task .limit ≡ 0 → (ws : List ℕ) → LaidOut (task .limit) 5 0 (formAt first second task before 5 0) ws Over
+  unfolding sizesFrom
+  laid-full n e ws =
+      laid-over (task .limit) 5 0 _ ws
+      (rw (leaf-apart (task .direction) (policyRows first) (policyRows second) before a b ea eb n) (omega arith))
+
+  pub laid-leaf : (a ≡ b → ⊥) → (task .limit ≡ 0 → ⊥) → (ws : List ℕ) → task .limit * 22 ≤ length ws
+      → LaidOut (task .limit) 5 0 (formAt first second task before 5 0) (set (set ws 0 b) 1 a) (Rows 1)
+  unfolding sizesFrom partRows partRow rangesFrom
+  laid-leaf n z ws h =
+      laid-rows (task .limit) 5 0 _ (set (set ws 0 b) 1 a) 1
+      (rw (
+        getD-set-same (set ws 0 b) 1 a 0 (simp length-set (omega arith)),
+        getD-set-other (set ws 0 b) 1 0 a 0 (λ e. omega arith),
+        getD-set-same ws 0 b 0 (omega arith),
+      ) (sym (leaf-apart (task .direction) (policyRows first) (policyRows second) before a b ea eb n)))
+      (omega arith)
+
+-- The first of the fields that are left: the intervals of its values.
+pub form-field : (d : Direction) (first second : List PolicyRow) (before : List ℕ) (S : ℕ) (Ss : List ℕ)
+    → formBehind d first second before (S ∷ Ss) ≡ rowsOf (runs parting-≟ (λ v. formBehind d first second (before ++ v ∷ []) Ss) S)
+unfolding normalForm
+form-field d first second before S Ss =
+    ap rowsOf
+    (runs-ext parting-≟ _ _ S
+    (λ v h. normal-form-ext parting-≟ agreed Ss _ _ (λ vs ok. ap (partingAt d first second) (sym (append-assoc before (v ∷ []) vs)))))
+
+-- Ranges in two parts, and what holds in two parts.
+ranges-split : (ws : List ℕ) (i f n m : ℕ) → rangesFrom ws i f (n + m) ≡ rangesFrom ws i f n ++ rangesFrom ws i (f + n) m
+unfolding rangesFrom
+ranges-split ws i f zero m = let e : f + 0 ≡ f = omega arith in let z : 0 + m ≡ m = omega arith in rw (e, z)
+ranges-split ws i f (suc n) m =
+    let e : f + 1 + n ≡ f + suc n = omega arith in
+    let z : suc n + m ≡ suc (n + m) = omega arith in
+    ap (rangesFrom ws i f) z ∙ ap (rangeOf ws i f ∷_) (ranges-split ws i (f + 1) n m ∙ ap (λ (g : ℕ). rangesFrom ws i (f + 1) n ++ rangesFrom ws i g m) e)
+
+holds-append : (rs qs : List Range) (us vs : List ℕ) → length rs ≡ length us → holds (rs ++ qs) (us ++ vs) ≡ (holds rs us && holds qs vs)
+unfolding holds
+holds-append [] qs [] vs e = refl
+holds-append [] qs (u ∷ us) vs e = absurd (omega arith)
+holds-append (r ∷ rs) qs [] vs e = absurd (omega arith)
+holds-append (r ∷ rs) qs (u ∷ us) vs e = rw (holds-append rs qs us vs (omega arith)) (sym (and-assoc (contains r u) (holds rs us) (holds qs vs)))
+
+pub values-length : (ps : List ℕ) (f n : ℕ) → length (valuesFrom ps f n) ≡ n
+unfolding valuesFrom
+values-length ps f zero = refl
+values-length ps f (suc n) = ap suc (values-length ps (f + 1) n)
+
+ranges-length : (ws : List ℕ) (i f n : ℕ) → length (rangesFrom ws i f n) ≡ n
+unfolding rangesFrom
+ranges-length ws i f zero = refl
+ranges-length ws i f (suc n) = ap suc (ranges-length ws i (f + 1) n)
+
+-- A row matches where it is active, its range of the next field holds that value, and the others hold the rest.
+module _ (d : Direction) (ws : List ℕ) (f : ℕ) (before : List ℕ) (e : length before ≡ f) (h : f < 5) where
+  holds-split : (i v : ℕ) (vs : List ℕ)
+      → holds (rangesFrom ws i 0 5) (before ++ v ∷ vs)
+      ≡ (holds (rangesFrom ws i 0 f) before && (contains (rangeOf ws i f) v && holds (rangesFrom ws i (f + 1) (4 - f)) vs))
+  unfolding rangesFrom holds
+  holds-split i v vs =
+      let k : 5 ≡ f + suc (4 - f) = omega arith in
+      let z : 0 + f ≡ f = omega arith in
+      ap (λ (m : ℕ). holds (rangesFrom ws i 0 m) (before ++ v ∷ vs)) k
+      ∙ ap (λ (rs : List Range). holds rs (before ++ v ∷ vs)) (ranges-split ws i 0 f (suc (4 - f)))
+      ∙ ap (λ (g : ℕ). holds (rangesFrom ws i 0 f ++ rangesFrom ws i g (suc (4 - f))) (before ++ v ∷ vs)) z
+      ∙ holds-append (rangesFrom ws i 0 f) (rangesFrom ws i f (suc (4 - f))) before (v ∷ vs) (ranges-length ws i 0 f ∙ sym e)
+
+  matches-split : (i v : ℕ) (vs : List ℕ)
+      → matches d (rowAt ws (i * rowWords)) (before ++ v ∷ vs)
+      ≡ (active d ws i f before && (contains (rangeOf ws i f) v && holds (rangesFrom ws i (f + 1) (4 - f)) vs))
+  unfolding active
+  matches-split i v vs =
+      sym (active-matches d ws i (before ++ v ∷ vs))
+      ∙ ap (appliesTo (directionOf (getD ws (i * rowWords) 0)) d &&_) (holds-split i v vs)
+      ∙ sym (and-assoc (appliesTo (directionOf (getD ws (i * rowWords) 0)) d) (holds (rangesFrom ws i 0 f) before)
+      (contains (rangeOf ws i f) v && holds (rangesFrom ws i (f + 1) (4 - f)) vs))
+
+  -- So two values that are alike to the rows that are active give the same action, whatever the later fields hold.
+  search-alike : (u v : ℕ) (vs : List ℕ) (i n : ℕ)
+      → ((j : ℕ) → j < i + n → active d ws j f before ≡ true → contains (rangeOf ws j f) u ≡ contains (rangeOf ws j f) v)
+      → orderedSearch d (rowsFrom ws i n) (before ++ u ∷ vs) ≡ orderedSearch d (rowsFrom ws i n) (before ++ v ∷ vs)
+  unfolding orderedSearch rowsFrom
+  search-alike u v vs i zero a = refl
+  search-alike u v vs i (suc n) a =
+      rw (matches-split i u vs, matches-split i v vs, by (active d ws i f before) refl (a i (omega arith)), search-alike u v vs (suc i) n (λ j k. a j (omega arith)))
+    where
+      by : (b : Bool) → active d ws i f before ≡ b → (b ≡ true → contains (rangeOf ws i f) u ≡ contains (rangeOf ws i f) v)
+          → (active d ws i f before && (contains (rangeOf ws i f) u && holds (rangesFrom ws i (f + 1) (4 - f)) vs))
+          ≡ (active d ws i f before && (contains (rangeOf ws i f) v && holds (rangesFrom ws i (f + 1) (4 - f)) vs))
+      by true t c = rw (c refl)
+      by false t c = rw t
+
+-- Values of an interval that no active row of either policy parts have the same layout behind them.
+pub form-alike : (d : Direction) (first second : List ℕ) (f : ℕ) (before : List ℕ) → length before ≡ f → f < 5 → (Ss : List ℕ) (from last : ℕ)
+    → AlikeAmong d first (length first / rowWords) f before from last
+    → AlikeAmong d second (length second / rowWords) f before from last
+    → (u : ℕ) → from ≤ u → u ≤ last
+    → formBehind d (policyRows first) (policyRows second) (before ++ u ∷ []) Ss ≡ formBehind d (policyRows first) (policyRows second) (before ++ from ∷ []) Ss
+unfolding AlikeAmong AlikeTo partingAt
+form-alike d first second f before e h Ss from last a b u p q =
+    normal-form-ext parting-≟ agreed Ss _ _
+    (λ vs ok.
+    rw (
+      append-assoc before (u ∷ []) vs,
+      append-assoc before (from ∷ []) vs,
+      search-alike d first f before e h u from vs 0 (length first / rowWords) (λ j k t. a j (omega arith) t u p q),
+      search-alike d second f before e h u from vs 0 (length second / rowWords) (λ j k t. b j (omega arith) t u p q),
+    ))
+
+-- The values of the first fields, with one more.
+values-last : (ps : List ℕ) (f n : ℕ) → valuesFrom ps f (n + 1) ≡ valuesFrom ps f n ++ valueOf ps (f + n) ∷ []
+unfolding valuesFrom
+values-last ps f zero = let e : f + 0 ≡ f = omega arith in rw e
+values-last ps f (suc n) =
+    let e : f + 1 + n ≡ f + suc n = omega arith in
+    let z : suc n + 1 ≡ suc (n + 1) = omega arith in
+    ap (valuesFrom ps f) z ∙ ap (valueOf ps f ∷_) (values-last ps (f + 1) n ∙ ap (λ (g : ℕ). valuesFrom ps (f + 1) n ++ valueOf ps g ∷ []) e)
+
+values-kept : (ps ps′ : List ℕ) (f n : ℕ) → ((j : ℕ) → j < 2 * (f + n) → getD ps′ j 0 ≡ getD ps j 0) → valuesFrom ps′ f n ≡ valuesFrom ps f n
+unfolding valuesFrom
+values-kept ps ps′ f zero s = refl
+values-kept ps ps′ f (suc n) s =
+    rw (value-moved ps ps′ (2 * f) (2 * f) (s _ (omega arith)) (s _ (omega arith)), values-kept ps ps′ (f + 1) n (λ j h. s j (omega arith)))
+
+pub values-with : (ps : List ℕ) (f : ℕ) (v : Value) → 2 * f + 2 ≤ length ps
+    → valuesFrom (set (set ps (2 * f) (v .upper)) (2 * f + 1) (v .lower)) 0 (f + 1) ≡ valuesFrom ps 0 f ++ number v ∷ []
+unfolding Outside
+values-with ps f v h =
+    let p = put-value ps (2 * f) v h in
+    let z : 0 + f ≡ f = omega arith in
+    values-last _ 0 f ∙ rw (z, p .value, values-kept ps _ 0 f (λ j k. p .others j (inl (omega arith))))

@@ -1,0 +1,12 @@
+pub mod Parting
+pub mod PartingLaws
+pub mod Decode
+pub mod DecodeLaws
+pub mod Laid
+pub mod LaidLaws
+pub mod Steps
+pub mod StepsLaws
+pub mod FormLaws
+pub mod Turn
+pub mod Progress
+pub mod NormalRows

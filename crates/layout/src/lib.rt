@@ -1,0 +1,457 @@
+// Lays policies out into their normal form, and two policies into their difference (document 01, 'One normal form').
+ghost use mathlib.Core.Path.{_≡_};
+ghost use mathlib.Core.Bool.{true};
+ghost use mathlib.Core.Logic.{_↔_};
+ghost use Prim.Native.Nat.{_+_, _-_, _*_, _≤_, _<_, min};
+ghost use lib.ListN.{length, set};
+ghost use Rattle.selectors.specs.Range.{contains, sameRange};
+ghost use Rattle.selectors.specs.Ranges.{fromTo};
+ghost use Rattle.selectors.specs.Value.{number, combination};
+ghost use Rattle.normal_form.specs.Search.{holds};
+ghost use Rattle.policy.specs.Policy.{orderedSearch};
+ghost use Rattle.policy.specs.Words.{valueAt, rangeAt, policyRows, actionWord};
+ghost use Rattle.layout.specs.Decode.{valuesFrom, rangeOf, rangesFrom, active as isActive, partRow, partRows};
+ghost use Rattle.layout.specs.Laid.{sizesOf, Outcome};
+ghost use Rattle.layout.specs.Parting.{differenceForm};
+ghost use Rattle.layout.specs.Steps.{Ends, AlikeTo, AlikeIn, Put, Stamped, Placed, LaidOut, fieldForm, valueForm, wordsFor};
+use policy::Found;
+use policy::ROW_WORDS;
+use selectors::Direction;
+use selectors::Selectors;
+use selectors::Value;
+
+pub const FIELDS: usize = 5;
+
+// The words of room for each row of a layout's limit: a row for each field, and one for what stands behind the last.
+pub const ROOM_WORDS: usize = (FIELDS + 1) * ROW_WORDS;
+
+// A value for each field: two words each, the upper first.
+pub struct Point {
+    pub words: [u64; 10],
+}
+
+pub enum Laid {
+    // The count of the rows.
+    Rows(usize),
+    // More rows than the limit.
+    Over,
+    NoRoom,
+}
+
+// What a layout is asked for.
+struct Task {
+    direction: Direction,
+    highest: Point,
+    limit: usize,
+}
+
+// The rows from `last` to `next` are those of the last interval, which begins at the value `low`; those before it are done.
+struct Kept {
+    last: usize,
+    next: usize,
+    low: Value,
+}
+
+const ZERO: Value = Value { upper: 0, lower: 0 };
+
+fn point_value(point: Point, field: usize) -> Value
+    requires { ⌜ field < 5 ⌝ }
+    ensures { λ r. ⌜ r ≡ valueAt (point .words) (2 * field) ⌝ }
+{
+    let at = 2 * field;
+    Value {
+        upper: point.words[at],
+        lower: point.words[at + 1],
+    }
+}
+
+fn with_value(point: Point, field: usize, value: Value) -> Point
+    requires { ⌜ field < 5 ⌝ }
+    ensures { λ r. ⌜ r .words ≡ set (set (point .words) (2 * field) (value .upper)) (2 * field + 1) (value .lower) ⌝ }
+{
+    let at = 2 * field;
+    let mut here = point;
+    here.words[at] = value.upper;
+    here.words[at + 1] = value.lower;
+    here
+}
+
+fn value_at(words: &[u64], at: usize) -> Value
+    requires { ⌜ at + 2 ≤ length (now words) ⌝ }
+    ensures { λ r. ⌜ r ≡ valueAt (now (words .entry)) at ⌝ }
+{
+    Value {
+        upper: words[at],
+        lower: words[at + 1],
+    }
+}
+
+fn range_holds(rows: &[u64], at: usize, value: Value) -> bool
+    requires { ⌜ at + 4 ≤ length (now rows) ⌝ }
+    ensures { λ r. ⌜ r ≡ contains (rangeAt (now (rows .entry)) at) (number value) ⌝ }
+{
+    if value.less(value_at(rows, at)) {
+        return false;
+    }
+    !value_at(rows, at + 2).less(value)
+}
+
+// Whether a row's ranges hold the point's values in the fields before `field`.
+fn ranges_hold(rows: &[u64], row: usize, point: Point, field: usize) -> bool
+    requires { ⌜ (field ≤ 5) × (row * 22 + 22 ≤ length (now rows)) ⌝ }
+    ensures { λ r. ⌜ r ≡ holds (rangesFrom (now (rows .entry)) row 0 field) (valuesFrom (point .words) 0 field) ⌝ }
+{
+    let base = row * ROW_WORDS + 2;
+    let mut f: usize = 0;
+    while f < field {
+        if !range_holds(rows, base + 4 * f, point_value(point, f)) {
+            return false;
+        }
+        f += 1;
+    }
+    true
+}
+
+// Whether a row is for the direction and holds the point's values in the fields before `field`.
+fn active(rows: &[u64], row: usize, direction: Direction, point: Point, field: usize) -> bool
+    requires { ⌜ (field ≤ 5) × (row * 22 + 22 ≤ length (now rows)) ⌝ }
+    ensures { λ r. ⌜ r ≡ isActive direction (now (rows .entry)) row field (valuesFrom (point .words) 0 field) ⌝ }
+{
+    if !policy::direction_of(rows[row * ROW_WORDS]).applies_to(direction) {
+        return false;
+    }
+    ranges_hold(rows, row, point, field)
+}
+
+fn selectors_of(point: Point) -> Selectors
+    ensures { λ r. ⌜ combination r ≡ valuesFrom (point .words) 0 5 ⌝ }
+{
+    Selectors {
+        local: point_value(point, 0),
+        remote: point_value(point, 1),
+        protocol: point_value(point, 2),
+        local_port: point_value(point, 3),
+        remote_port: point_value(point, 4),
+    }
+}
+
+// The word of the action that the ordered search finds at the point.
+fn action_at(rows: &[u64], direction: Direction, point: Point) -> u64
+    ensures { λ r. ⌜ r ≡ actionWord (orderedSearch direction (policyRows (now (rows .entry))) (valuesFrom (point .words) 0 5)) ⌝ }
+{
+    let found = policy::first_match(rows, direction, selectors_of(point));
+    let Found::Row(row) = found else {
+        return 0;
+    };
+    rows[row * ROW_WORDS + 1]
+}
+
+fn smaller(a: Value, b: Value) -> Value
+    ensures { λ r. ⌜ number r ≡ min (number a) (number b) ⌝ }
+{
+    if a.less(b) {
+        return a;
+    }
+    b
+}
+
+// The last value, up to `best`, to which the range from low to high treats all values like `from`.
+fn alike_to(low: Value, high: Value, from: Value, best: Value) -> Value
+    requires { ⌜ number from ≤ number best ⌝ }
+    ensures { λ r. ⌜ Ends (number from) (number best) (number r) (AlikeTo (fromTo low high) (number from) (number r)) ⌝ }
+{
+    if from.less(low) {
+        let before = low.previous();
+        return smaller(before, best);
+    }
+    if high.less(from) {
+        return best;
+    }
+    smaller(high, best)
+}
+
+// The same for the range of a field in a row, if the row is active.
+fn row_end(
+    rows: &[u64],
+    row: usize,
+    direction: Direction,
+    point: Point,
+    field: usize,
+    from: Value,
+    best: Value,
+) -> Value
+    requires { ⌜ (field < 5) × (row * 22 + 22 ≤ length (now rows)) ⌝ }
+    requires { ⌜ number from ≤ number best ⌝ }
+    ensures { λ r. ⌜ Ends (number from) (number best) (number r) (isActive direction (now (rows .entry)) row field (valuesFrom (point .words) 0 field) ≡ true → AlikeTo (rangeOf (now (rows .entry)) row field) (number from) (number r)) ⌝ }
+{
+    if !active(rows, row, direction, point, field) {
+        return best;
+    }
+    let at = row * ROW_WORDS + 2 + 4 * field;
+    let low = value_at(rows, at);
+    let high = value_at(rows, at + 2);
+    alike_to(low, high, from, best)
+}
+
+// The same for all rows of a policy.
+fn end_among(
+    rows: &[u64],
+    direction: Direction,
+    point: Point,
+    field: usize,
+    from: Value,
+    best: Value,
+) -> Value
+    requires { ⌜ (field < 5) × (number from ≤ number best) ⌝ }
+    ensures { λ r. ⌜ Ends (number from) (number best) (number r) (AlikeIn direction (now (rows .entry)) point field (number from) (number r)) ⌝ }
+{
+    let count = rows.len() / ROW_WORDS;
+    let mut end = best;
+    let mut row: usize = 0;
+    while row < count {
+        end = row_end(rows, row, direction, point, field, from, end);
+        row += 1;
+    }
+    end
+}
+
+fn same_range(words: &[u64], a: usize, b: usize) -> bool
+    requires { ⌜ (a + 4 ≤ length (now words)) × (b + 4 ≤ length (now words)) ⌝ }
+    ensures { λ r. ⌜ r ≡ sameRange (rangeAt (now (words .entry)) a) (rangeAt (now (words .entry)) b) ⌝ }
+{
+    if !value_at(words, a).same(value_at(words, b)) {
+        return false;
+    }
+    value_at(words, a + 2).same(value_at(words, b + 2))
+}
+
+// Whether two rows have the same ranges from the field on.
+fn same_ranges(room: &[u64], a: usize, b: usize, field: usize) -> bool
+    requires { ⌜ (field ≤ 5) × ((a * 22 + 22 ≤ length (now room)) × (b * 22 + 22 ≤ length (now room))) ⌝ }
+    ensures { λ r. ⌜ (r ≡ true) ↔ (rangesFrom (now (room .entry)) a field (5 - field) ≡ rangesFrom (now (room .entry)) b field (5 - field)) ⌝ }
+{
+    let left = a * ROW_WORDS + 2;
+    let right = b * ROW_WORDS + 2;
+    let mut f = field;
+    while f < FIELDS {
+        if !same_range(room, left + 4 * f, right + 4 * f) {
+            return false;
+        }
+        f += 1;
+    }
+    true
+}
+
+// Whether two rows are the same from the field on.
+fn same_row(room: &[u64], a: usize, b: usize, field: usize) -> bool
+    requires { ⌜ (field ≤ 5) × ((a * 22 + 22 ≤ length (now room)) × (b * 22 + 22 ≤ length (now room))) ⌝ }
+    ensures { λ r. ⌜ (r ≡ true) ↔ (partRow field (5 - field) (now (room .entry)) a ≡ partRow field (5 - field) (now (room .entry)) b) ⌝ }
+{
+    if room[a * ROW_WORDS] != room[b * ROW_WORDS] {
+        return false;
+    }
+    if room[a * ROW_WORDS + 1] != room[b * ROW_WORDS + 1] {
+        return false;
+    }
+    same_ranges(room, a, b, field)
+}
+
+// Whether `count` rows from a on and from b on are the same from the field on.
+fn same_rows(room: &[u64], a: usize, b: usize, count: usize, field: usize) -> bool
+    requires { ⌜ (field ≤ 5) × (((a + count) * 22 ≤ length (now room)) × ((b + count) * 22 ≤ length (now room))) ⌝ }
+    ensures { λ r. ⌜ (r ≡ true) ↔ (partRows field (5 - field) (now (room .entry)) a count ≡ partRows field (5 - field) (now (room .entry)) b count) ⌝ }
+{
+    let mut i: usize = 0;
+    while i < count {
+        if !same_row(room, a + i, b + i, field) {
+            return false;
+        }
+        i += 1;
+    }
+    true
+}
+
+fn put_value(room: &mut [u64], at: usize, value: Value)
+    requires { ⌜ at + 2 ≤ length (now room) ⌝ }
+    ensures { λ _. ⌜ Put at value (now (room .entry)) (now (room .exit)) ⌝ }
+{
+    room[at] = value.upper;
+    room[at + 1] = value.lower;
+}
+
+// Writes a row's range of the field.
+fn stamp_row(room: &mut [u64], row: usize, field: usize, low: Value, high: Value)
+    requires { ⌜ (field < 5) × (row * 22 + 22 ≤ length (now room)) ⌝ }
+    ensures { λ _. ⌜ Stamped field (5 - (field + 1)) row (row + 1) (number low) (number high) (now (room .entry)) (now (room .exit)) ⌝ }
+{
+    let at = row * ROW_WORDS + 2 + 4 * field;
+    put_value(room, at, low);
+    put_value(room, at + 2, high);
+}
+
+// Writes the range of the field of the rows a to b, without b.
+fn stamp(room: &mut [u64], a: usize, b: usize, field: usize, low: Value, high: Value)
+    requires { ⌜ (field < 5) × ((a ≤ b) × (b * 22 ≤ length (now room))) ⌝ }
+    ensures { λ _. ⌜ Stamped field (5 - (field + 1)) a b (number low) (number high) (now (room .entry)) (now (room .exit)) ⌝ }
+{
+    let mut row = a;
+    while row < b {
+        stamp_row(room, row, field, low, high);
+        row += 1;
+    }
+}
+
+// Whether the last interval's rows are the same as the `count` rows behind them, from the field on.
+fn same_block(room: &[u64], last: usize, next: usize, count: usize, field: usize) -> bool
+    requires { ⌜ (field ≤ 5) × ((last ≤ next) × ((next + count) * 22 ≤ length (now room))) ⌝ }
+    ensures { λ r. ⌜ (r ≡ true) ↔ (partRows field (5 - field) (now (room .entry)) last (next - last) ≡ partRows field (5 - field) (now (room .entry)) next count) ⌝ }
+{
+    if next - last != count {
+        return false;
+    }
+    same_rows(room, last, next, count, field)
+}
+
+// Merges the `count` rows behind the last interval, which are the layout at `from`, into it, or ends it and begins one with them.
+fn place(room: &mut [u64], kept: Kept, count: usize, field: usize, from: Value) -> Kept
+    requires { ⌜ (field < 5) × ((kept .last ≤ kept .next) × ((kept .next + count) * 22 ≤ length (now room))) ⌝ }
+    ensures { λ r. ⌜ Placed field (5 - (field + 1)) kept count (number from) (now (room .entry)) (now (room .exit)) r ⌝ }
+{
+    let last = kept.last;
+    let next = kept.next;
+    if same_block(room, last, next, count, field + 1) {
+        return kept;
+    }
+    stamp(room, last, next, field, kept.low, from.previous());
+    Kept {
+        last: next,
+        next: next + count,
+        low: from,
+    }
+}
+
+// Behind the last field stands the leaf, if the two policies part there.
+fn leaf(first: &[u64], second: &[u64], task: Task, point: Point, room: &mut [u64]) -> Laid
+    requires { ⌜ task .limit * 22 ≤ length (now room) ⌝ }
+    ensures { λ r. ⌜ LaidOut (task .limit) 5 0 (fieldForm (now (first .entry)) (now (second .entry)) task point 5) (now (room .exit)) r ⌝ }
+{
+    let direction = task.direction;
+    let action = action_at(first, direction, point);
+    let other = action_at(second, direction, point);
+    if action == other {
+        return Laid::Rows(0);
+    }
+    if task.limit == 0 {
+        return Laid::Over;
+    }
+    room[0] = other;
+    room[1] = action;
+    Laid::Rows(1)
+}
+
+// The last value of the interval that begins at `from`: to it, no row of either policy treats two values differently.
+fn interval_end(
+    first: &[u64],
+    second: &[u64],
+    direction: Direction,
+    point: Point,
+    field: usize,
+    from: Value,
+    top: Value,
+) -> Value
+    requires { ⌜ (field < 5) × (number from ≤ number top) ⌝ }
+    ensures { λ r. ⌜ Ends (number from) (number top) (number r) (AlikeIn direction (now (first .entry)) point field (number from) (number r) × AlikeIn direction (now (second .entry)) point field (number from) (number r)) ⌝ }
+{
+    let best = end_among(first, direction, point, field, from, top);
+    end_among(second, direction, point, field, from, best)
+}
+
+// Lays out what follows the field at its value `from`: the next field, or the leaf where none is left.
+fn layout_stretch(
+    first: &[u64],
+    second: &[u64],
+    task: Task,
+    point: Point,
+    field: usize,
+    from: Value,
+    room: &mut [u64],
+) -> Laid
+    requires { ⌜ (field < 5) × (length (point .words) ≡ 10) ⌝ }
+    requires { ⌜ wordsFor (task .limit) (5 - (field + 1)) ≤ length (now room) ⌝ }
+    ensures { λ r. ⌜ LaidOut (task .limit) (field + 1) (5 - (field + 1)) (valueForm (now (first .entry)) (now (second .entry)) task point field (number from)) (now (room .exit)) r ⌝ }
+{
+    let here = with_value(point, field, from);
+    let inner = field + 1;
+    if inner == FIELDS {
+        return leaf(first, second, task, here, room);
+    }
+    layout_field(first, second, task, here, inner, room)
+}
+
+// Lays out the field and those after it, behind the point's values in the fields before it: from interval to interval, each of which
+// is laid out into the rest of the room.
+fn layout_field(
+    first: &[u64],
+    second: &[u64],
+    task: Task,
+    point: Point,
+    field: usize,
+    room: &mut [u64],
+) -> Laid
+    requires { ⌜ (field < 5) × (length (point .words) ≡ 10) ⌝ }
+    requires { ⌜ wordsFor (task .limit) (5 - field) ≤ length (now room) ⌝ }
+    ensures { λ r. ⌜ LaidOut (task .limit) field (5 - field) (fieldForm (now (first .entry)) (now (second .entry)) task point field) (now (room .exit)) r ⌝ }
+{
+    let direction = task.direction;
+    let highest = task.highest;
+    let top = point_value(highest, field);
+    let mut kept = Kept {
+        last: 0,
+        next: 0,
+        low: ZERO,
+    };
+    let mut from = ZERO;
+    loop {
+        let end = interval_end(first, second, direction, point, field, from, top);
+        let base = kept.next * ROW_WORDS;
+        let laid = layout_stretch(first, second, task, point, field, from, &mut room[base..]);
+        let Laid::Rows(count) = laid else {
+            return Laid::Over;
+        };
+        kept = place(room, kept, count, field, from);
+        let next = kept.next;
+        if task.limit < next {
+            return Laid::Over;
+        }
+        if !end.less(top) {
+            stamp(room, kept.last, next, field, kept.low, top);
+            return Laid::Rows(next);
+        }
+        from = end.next();
+    }
+}
+
+// Lays out where the policies of two lists of rows part for a direction, or with no second list the normal form of the first.
+// `highest` has the highest value of each field. The rows, at most `limit`, stand at the start of the room; the rest of the room is
+// scratch, and what it holds afterwards is left open. NoRoom is answered before anything is written.
+pub fn layout(
+    first: &[u64],
+    second: &[u64],
+    direction: Direction,
+    highest: Point,
+    limit: usize,
+    room: &mut [u64],
+) -> Laid
+    ensures { λ r. ⌜ Outcome limit (differenceForm (sizesOf highest) direction (policyRows (now (first .entry))) (policyRows (now (second .entry)))) (now (room .entry)) (now (room .exit)) r ⌝ }
+{
+    if room.len() / ROOM_WORDS < limit {
+        return Laid::NoRoom;
+    }
+    let point = Point { words: [0; 10] };
+    let task = Task {
+        direction,
+        highest,
+        limit,
+    };
+    layout_field(first, second, task, point, 0, room)
+}
