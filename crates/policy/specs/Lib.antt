@@ -3,4 +3,5 @@ pub mod Policy
 pub mod PolicyLaws
 pub mod Words
 pub mod WordsLaws
+pub mod RowsLaws
 pub mod Example

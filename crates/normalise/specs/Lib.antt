@@ -1,0 +1,4 @@
+pub mod Normalise
+pub mod Steps
+pub mod Files
+pub mod Demand3

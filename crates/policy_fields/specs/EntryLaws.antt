@@ -1,0 +1,63 @@
+-- Laws of entries. Assumes nothing.
+use Prim.Native.Nat.{ℕ}
+use mathlib.Core.Path.{_≡_, refl, sym, ap}
+use mathlib.Core.List.{List}
+use mathlib.Core.Option.{Option, none, some}
+use lib.ListN.{length}
+use Rattle.selectors.specs.Range.{Range}
+use Rattle.policy.specs.declared.Action.{Action}
+use Rattle.policy.specs.declared.RowDirection.{RowDirection}
+use Rattle.policy.specs.Policy.{PolicyRow}
+use Rattle.policy_fields.specs.declared.Entry.{Entry}
+use Rattle.policy_fields.specs.declared.RowText.{RowText}
+use Rattle.policy_fields.specs.declared.RowText.the-variants.{Row as RowIs, Bad as RowBad}
+use Rattle.policy_text.specs.Format.{addressField, protocolField, portField, directionField, actionField, field, fieldsFrom, rowMade, rowOf}
+use Rattle.policy_text.specs.RowWords.{wordsOfRow}
+use Rattle.policy_fields.specs.Answers.{addressFor, protocolFor, portFor, directionFor, actionFor, entryFor, entryOf, entryWords, textWords}
+
+-- An entry stands for a row: there is none without the other, and the words are the same.
+abbrev pub EntryIs : RowText → Option PolicyRow → Type 0
+EntryIs RowBad none = Unit
+EntryIs RowBad (some r) = ⊥
+EntryIs (RowIs e) none = ⊥
+EntryIs (RowIs e) (some r) = entryWords e ≡ wordsOfRow r
+
+seven : (d : Option RowDirection) (a : Option Action) (l r p x y : Option Range)
+    → EntryIs (entryFor (directionFor d) (actionFor a) (addressFor l) (addressFor r) (protocolFor p) (portFor x) (portFor y)) (rowMade d a l r p x y)
+seven none a l r p x y = tt
+seven (some d) none l r p x y = tt
+seven (some d) (some a) none r p x y = tt
+seven (some d) (some a) (some l) none p x y = tt
+seven (some d) (some a) (some l) (some r) none x y = tt
+seven (some d) (some a) (some l) (some r) (some p) none y = tt
+seven (some d) (some a) (some l) (some r) (some p) (some x) none = tt
+seven (some d) (some a) (some l) (some r) (some p) (some x) (some y) = refl
+
+pub entry-is : (s : List ℕ) → EntryIs (entryOf s) (rowOf s)
+unfolding entryOf rowOf
+entry-is s =
+    seven (directionField (field 0 s)) (actionField (field 1 s)) (addressField (field 2 s)) (addressField (field 3 s)) (protocolField (field 4 s))
+    (portField (field 5 s)) (portField (fieldsFrom 6 s))
+
+row-none : (o : Option PolicyRow) → EntryIs RowBad o → o ≡ none
+row-none none h = refl
+row-none (some r) h = absurd h
+
+row-some : (e : Entry) (o : Option PolicyRow) → EntryIs (RowIs e) o → (r : PolicyRow) × ((o ≡ some r) × (entryWords e ≡ wordsOfRow r))
+row-some e none h = absurd h
+row-some e (some r) h = (r, (refl, h))
+
+-- A line whose entry is bad is no row, and a line whose entry is none is one.
+pub bad-none : (l : List ℕ) → entryOf l ≡ RowBad → rowOf l ≡ none
+bad-none l e = row-none (rowOf l) (rw e at (entry-is l))
+
+pub entry-some : (l : List ℕ) (e : Entry) → entryOf l ≡ RowIs e → (r : PolicyRow) × ((rowOf l ≡ some r) × (entryWords e ≡ wordsOfRow r))
+entry-some l e q = row-some e (rowOf l) (rw q at (entry-is l))
+
+words-some : (t : RowText) (r : PolicyRow) → EntryIs t (some r) → (textWords t ≡ wordsOfRow r) × (length (wordsOfRow r) ≡ 22)
+words-some RowBad r h = absurd h
+words-some (RowIs e) r h = (h, sym (ap length h))
+
+-- The words of a line that is a row.
+pub line-words : (l : List ℕ) (r : PolicyRow) → rowOf l ≡ some r → (textWords (entryOf l) ≡ wordsOfRow r) × (length (wordsOfRow r) ≡ 22)
+line-words l r q = words-some (entryOf l) r (rw q at (entry-is l))

@@ -1,0 +1,3 @@
+pub mod Parsing
+pub mod RowsLaws
+pub mod FileLaws

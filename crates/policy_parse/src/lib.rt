@@ -1,0 +1,169 @@
+// The parser of policy files (document 01, 'The policy file').
+ghost use mathlib.Core.Path.{_≡_};
+ghost use mathlib.Core.List.{_++_};
+ghost use Prim.Native.Nat.{_+_, _-_, _*_, _≤_};
+ghost use lib.ListN.{length, getD, take, drop};
+ghost use lib.Seq.{sets};
+ghost use Rattle.policy_text.specs.Bytes.{lf, before, after};
+ghost use Rattle.policy_text.specs.Format.{linesOf, rowsOf, parsePolicy};
+ghost use Rattle.policy_fields.specs.Answers.{valueWords, entryWords, textWords};
+ghost use Rattle.policy_parse.specs.Parsing.{badOf, written, parsedIn, parsedRoom};
+use policy_fields::Entry;
+use policy_fields::RowText;
+use policy_fields::row;
+use policy_text::Parsed;
+use policy_text::before;
+use policy_text::count;
+use policy_text::find;
+use policy_text::same;
+use selectors::Value;
+
+// The line from a place on, and where the next one begins; at the end where there is no LF.
+fn line_at(s: &[u8], at: usize) -> &[u8]
+    requires { ⌜ at ≤ length (now s) ⌝ }
+    ensures { λ r. ⌜ now r ≡ before lf (drop at (now (s .entry))) ⌝ }
+{
+    before(&s[at..], b'\n')
+}
+
+fn next_line(s: &[u8], at: usize) -> usize
+    requires { ⌜ at ≤ length (now s) ⌝ }
+    ensures { λ r. ⌜ (r ≤ length (now (s .entry))) × (drop r (now (s .entry)) ≡ after lf (drop at (now (s .entry)))) ⌝ }
+{
+    let rest = &s[at..];
+    let end = find(rest, b'\n');
+    if end < rest.len() {
+        return at + (end + 1);
+    }
+    s.len()
+}
+
+// The number of the first bad row of that many, and 0 if there is none.
+fn first_bad(body: &[u8], count: usize) -> usize
+    ensures { λ r. ⌜ r ≡ badOf (rowsOf 1 (linesOf count (now (body .entry)))) ⌝ }
+{
+    let mut at: usize = 0;
+    let mut i: usize = 0;
+    while i < count {
+        let RowText::Row(_) = row(line_at(body, at)) else {
+            return i + 1;
+        };
+        at = next_line(body, at);
+        i += 1;
+    }
+    0
+}
+
+fn put_value(rows: &mut [u64], at: usize, v: Value)
+    requires { ⌜ at + 2 ≤ length (now rows) ⌝ }
+    ensures { λ _. ⌜ now (rows .exit) ≡ sets (now (rows .entry)) at (valueWords v) ⌝ }
+{
+    rows[at] = v.upper;
+    rows[at + 1] = v.lower;
+}
+
+fn put_range(rows: &mut [u64], at: usize, low: Value, high: Value)
+    requires { ⌜ at + 4 ≤ length (now rows) ⌝ }
+    ensures { λ _. ⌜ now (rows .exit) ≡ sets (now (rows .entry)) at (valueWords low ++ valueWords high) ⌝ }
+{
+    put_value(rows, at, low);
+    put_value(rows, at + 2, high);
+}
+
+fn put_entry(rows: &mut [u64], at: usize, e: Entry)
+    requires { ⌜ at + 22 ≤ length (now rows) ⌝ }
+    ensures { λ _. ⌜ now (rows .exit) ≡ sets (now (rows .entry)) at (entryWords e) ⌝ }
+{
+    let local = e.local;
+    let remote = e.remote;
+    let protocol = e.protocol;
+    let local_port = e.local_port;
+    let remote_port = e.remote_port;
+    rows[at] = e.direction;
+    rows[at + 1] = e.action;
+    put_range(rows, at + 2, local.low, local.high);
+    put_range(rows, at + 6, remote.low, remote.high);
+    put_range(rows, at + 10, protocol.low, protocol.high);
+    put_range(rows, at + 14, local_port.low, local_port.high);
+    put_range(rows, at + 18, remote_port.low, remote_port.high);
+}
+
+// The words of a row at their place; a bad row has none.
+fn put_row(rows: &mut [u64], at: usize, text: RowText)
+    requires { ⌜ at + 22 ≤ length (now rows) ⌝ }
+    ensures { λ _. ⌜ now (rows .exit) ≡ sets (now (rows .entry)) at (textWords text) ⌝ }
+{
+    let RowText::Row(e) = text else {
+        return;
+    };
+    put_entry(rows, at, e);
+}
+
+// The words of that many rows, from the start of the room.
+fn put_rows(body: &[u8], count: usize, rows: &mut [u64])
+    requires { ⌜ count * 22 ≤ length (now rows) ⌝ }
+    ensures { λ _. ⌜ now (rows .exit) ≡ written (now (rows .entry)) 0 (linesOf count (now (body .entry))) ⌝ }
+{
+    let mut at: usize = 0;
+    let mut i: usize = 0;
+    while i < count {
+        put_row(rows, i * 22, row(line_at(body, at)));
+        at = next_line(body, at);
+        i += 1;
+    }
+}
+
+fn first_nine(s: &[u8]) -> &[u8]
+    ensures { λ r. ⌜ now r ≡ take 9 (now (s .entry)) ⌝ }
+{
+    if s.len() < 9 {
+        return s;
+    }
+    &s[..9]
+}
+
+fn after_nine(s: &[u8]) -> &[u8]
+    ensures { λ r. ⌜ now r ≡ drop 9 (now (s .entry)) ⌝ }
+{
+    let end = s.len();
+    if end < 9 {
+        return &s[end..];
+    }
+    &s[9..]
+}
+
+fn last(s: &[u8]) -> u8
+    ensures { λ r. ⌜ r ≡ getD (now (s .entry)) (length (now (s .entry)) - 1) 0 ⌝ }
+{
+    if s.len() == 0 {
+        return 0;
+    }
+    s[s.len() - 1]
+}
+
+// The rows of a policy file as words, at the start of the lent room; on any refusal the room is left alone.
+pub fn parse(bytes: &[u8], limit: usize, rows: &mut [u64]) -> Parsed
+    ensures { λ r. ⌜ r ≡ parsedIn (length (now (rows .entry))) (parsePolicy limit (now (bytes .entry))) ⌝ }
+    ensures { λ _. ⌜ now (rows .exit) ≡ parsedRoom (now (rows .entry)) (parsePolicy limit (now (bytes .entry))) ⌝ }
+{
+    if !same(first_nine(bytes), b"policy\t1\n") {
+        return Parsed::NotHeader;
+    }
+    if last(bytes) != b'\n' {
+        return Parsed::NotEnded;
+    }
+    let body = after_nine(bytes);
+    let n = count(body, b'\n');
+    if limit < n {
+        return Parsed::TooMany;
+    }
+    let bad = first_bad(body, n);
+    if bad != 0 {
+        return Parsed::BadRow(bad);
+    }
+    if rows.len() / 22 < n {
+        return Parsed::NoRoom;
+    }
+    put_rows(body, n, rows);
+    Parsed::Rows(n)
+}

@@ -1,0 +1,9 @@
+pub mod Bytes
+pub mod BytesLaws
+pub mod Format
+pub mod FormatLaws
+pub mod Print
+pub mod RowWords
+pub mod Stores
+pub mod PrintLaws
+pub mod Examples

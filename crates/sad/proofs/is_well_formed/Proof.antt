@@ -1,0 +1,34 @@
+-- `sad::is_well_formed` meets its contract: protocol, number and ranges one after the other. Assumes nothing.
+use Rattle.sad.specs.Pairs.{wellFormed}
+use borrow.Author.Tests.{not-true, not-false, le-leb, lt-leb}
+use mathlib.Core.Path.{sym, _∙_}
+use borrow.Author.Needs.{needs}
+use Rattle.sad.proofs.is_well_formed.Statement.{statement}
+use Rattle.sad.proofs.is_well_formed.Tie as tie
+
+is-ipsec-requires : tie.Need-is-ipsec-requires
+is-ipsec-requires c κs = search needs
+
+returns : tie.Need-returns
+unfolding wellFormed
+returns c = rw (sym (c .before .is-ipsec .ensures) ∙ not-true _ (c .if1 .taken))
+
+returns-2 : tie.Need-returns-2
+unfolding wellFormed
+returns-2 c = rw (sym (c .before .before .before .is-ipsec .ensures) ∙ not-false _ (c .before .before .if1 .left), lt-leb 1 _ (c .if2 .taken))
+
+returns-3 : tie.Need-returns-3
+unfolding wellFormed
+returns-3 c = rw (sym (c .before .before .before .before .before .is-ipsec .ensures) ∙ not-false _ (c .before .before .before .before .if1 .left), le-leb 1 _ (c .before .before .if2 .left), lt-leb _ 255 (c .if3 .taken))
+
+has-ranges-requires : tie.Need-has-ranges-requires
+has-ranges-requires c κs = search needs
+
+returns-4 : tie.Need-returns-4
+unfolding wellFormed
+returns-4 c = rw (sym (c .before .before .before .before .before .before .is-ipsec .ensures) ∙ not-false _ (c .before .before .before .before .before .if1 .left), le-leb 1 _ (c .before .before .before .if2 .left), le-leb _ 255 (c .before .if3 .left)) (c .has-ranges .ensures)
+
+pub is-well-formed-spec : {M : Type 1} → statement M
+is-well-formed-spec =
+    tie.close
+    (tie.spec is-ipsec-requires returns returns-2 returns-3 has-ranges-requires returns-4)

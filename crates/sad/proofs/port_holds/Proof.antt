@@ -1,0 +1,25 @@
+-- `sad::port_holds` meets its contract: the range is made of the words. Assumes nothing.
+use Rattle.sad.specs.PairsLaws.{values-hold}
+use mathlib.Core.Path.{_∙_}
+use borrow.Author.Needs.{needs}
+use Rattle.sad.proofs.port_holds.Statement.{statement}
+use Rattle.sad.proofs.port_holds.Tie as tie
+
+value-at-requires : tie.Need-value-at-requires
+value-at-requires c κs = search needs
+
+add-value-at : tie.Need-add-value-at
+add-value-at c = search needs
+
+value-at-requires-2 : tie.Need-value-at-requires-2
+value-at-requires-2 c κs = search needs
+
+holds-requires : tie.Need-holds-requires
+holds-requires c κs = search needs
+
+returns : tie.Need-returns
+returns c = c .holds .ensures ∙ values-hold _ _ _ _ _ (c .before .before .value-at .ensures) (c .before .value-at2 .ensures)
+
+pub port-holds-spec : {M : Type 1} → statement M
+port-holds-spec =
+    tie.close (tie.spec value-at-requires add-value-at value-at-requires-2 holds-requires returns)

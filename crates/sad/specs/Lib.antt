@@ -1,0 +1,4 @@
+pub mod Pairs
+pub mod PairsLaws
+pub mod BestLaws
+pub mod TableLaws

@@ -1,0 +1,3 @@
+pub mod Cache
+pub mod CacheLaws
+pub mod SlotLaws
