@@ -36,7 +36,7 @@ abbrev pub parsedRoom : List ℕ → Policy → List ℕ
 parsedRoom room (refused p) = room
 parsedRoom room (rows rs) = cond (leb (length rs * rowWords) (length room)) (wordsOf rs ++ drop (length rs * rowWords) room) room
 
--- Document 01's number of an answer. NoRoom is none of its answers: a gateway lends room for the limit.
+-- Document 01's number of an answer. It has none for NoRoom, since a gateway lends room for the limit: it is given that of a print's short room.
 abbrev pub parsedNumber : Parsed → ℕ
 parsedNumber (Rows n) = 5
 parsedNumber NotHeader = 23
