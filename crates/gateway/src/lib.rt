@@ -8,6 +8,7 @@ ghost use Rattle.selectors.specs.Value.{number, combination};
 ghost use Rattle.packet.specs.Header.{two, four};
 ghost use Rattle.packet.specs.Read.{readPacket, readTrigger};
 ghost use Rattle.sad.specs.Pairs.{pairs};
+ghost use Rattle.spd.specs.Spd.{rowsOf, addressOf};
 ghost use Rattle.gateway.specs.Calls.{outboundAction, inboundAction, forGateway, fragment, esp, spiOf, toIpsec, triggerRead, fromSaBy};
 ghost use Rattle.gateway.specs.Cached.{outboundCached, inboundCached};
 use packet::Packet;
@@ -80,9 +81,9 @@ fn outbound_action(table: &[u64; 1536], selectors: Selectors, action: Action) ->
     }
 }
 
-// A packet going out: `rows` are the normal-form rows of that direction.
-pub fn outbound(rows: &[u64], table: &[u64; 1536], cache: Cache, bytes: &[u8]) -> Answered
-    ensures { λ r. ⌜ r ≡ outboundCached cache (now (rows .entry)) (pairs (now (table .entry))) (now (bytes .entry)) ⌝ }
+// A packet going out: `policy` has the normal-form rows that the gateway holds, `table` its pairs, `cache` is that of the direction.
+pub fn outbound(policy: &[u64; 11267], table: &[u64; 1536], cache: Cache, bytes: &[u8]) -> Answered
+    ensures { λ r. ⌜ r ≡ outboundCached cache (rowsOf (now (policy .entry)) Direction.Out) (pairs (now (table .entry))) (now (bytes .entry)) ⌝ }
 {
     let reading = packet::read(bytes, Direction::Out);
     let Reading::Readable(packet) = reading else {
@@ -92,6 +93,7 @@ pub fn outbound(rows: &[u64], table: &[u64; 1536], cache: Cache, bytes: &[u8]) -
         };
     };
     let selectors = packet.selectors;
+    let rows = spd::rows_of(policy, Direction::Out);
     let looked = cache.lookup(rows, Direction::Out, selectors);
     let action = looked.action;
     let after = looked.cache;
@@ -173,14 +175,14 @@ fn has_protocol(packet: Packet, wanted: u64) -> bool
 }
 
 // Whether this is AH or ESP for the gateway, whose own address is given.
-fn for_gateway(address: u32, packet: Packet) -> bool
+fn for_gateway(address: u64, packet: Packet) -> bool
     ensures { λ r. ⌜ r ≡ forGateway address packet ⌝ }
 {
     let selectors = packet.selectors;
     let local = selectors.local;
     let own = Value {
         upper: 0,
-        lower: address as u64,
+        lower: address,
     };
     if !local.same(own) {
         return false;
@@ -252,15 +254,9 @@ fn inbound_action(action: Action) -> Verdict
     }
 }
 
-// A packet coming in from outside: `rows` are the normal-form rows of that direction, `address` is the gateway's own.
-pub fn inbound(
-    rows: &[u64],
-    table: &[u64; 1536],
-    address: u32,
-    cache: Cache,
-    bytes: &[u8],
-) -> Answered
-    ensures { λ r. ⌜ r ≡ inboundCached cache (now (rows .entry)) address (pairs (now (table .entry))) (now (bytes .entry)) ⌝ }
+// A packet coming in from outside.
+pub fn inbound(policy: &[u64; 11267], table: &[u64; 1536], cache: Cache, bytes: &[u8]) -> Answered
+    ensures { λ r. ⌜ r ≡ inboundCached cache (rowsOf (now (policy .entry)) Direction.In) (addressOf (now (policy .entry))) (pairs (now (table .entry))) (now (bytes .entry)) ⌝ }
 {
     let reading = packet::read(bytes, Direction::In);
     let Reading::Readable(packet) = reading else {
@@ -269,12 +265,13 @@ pub fn inbound(
             cache,
         };
     };
-    if for_gateway(address, packet) {
+    if for_gateway(spd::address_of(policy), packet) {
         return Answered {
             verdict: to_ipsec(table, bytes, packet),
             cache,
         };
     }
+    let rows = spd::rows_of(policy, Direction::In);
     let looked = cache.lookup(rows, Direction::In, packet.selectors);
     let action = looked.action;
     let after = looked.cache;

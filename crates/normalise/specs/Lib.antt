@@ -1,4 +1,2 @@
-pub mod Normalise
-pub mod Steps
-pub mod Files
-pub mod Demand3
+pub mod Command
+pub mod Room

@@ -1,3 +1,4 @@
 pub mod Parsing
 pub mod RowsLaws
 pub mod FileLaws
+pub mod Taken

@@ -167,12 +167,12 @@ unfoldable pub wellFormed : NewPair → Bool
 wellFormed p = ipsec (p .protocol) && leb 1 (p .number) && leb (p .number) 255 && rangesIn p
 
 -- 'An added pair: 25, 28, 26, 27.'
-unfoldable pub addOutcome : List ℕ → NewPair → Outcome
-addOutcome ws p =
+unfoldable pub addOutcome : List Pair → NewPair → Outcome
+addOutcome qs p =
     cond (reservedSpi p) ReservedSpi
     (cond (not (wellFormed p)) BadPair
-    (cond (live (p .protocol) (p .«spi_in») (pairs ws)) AlreadyLive
-    (cond (leb placeCount (length (pairs ws))) TableFull Done)))
+    (cond (live (p .protocol) (p .«spi_in») qs) AlreadyLive
+    (cond (leb placeCount (length qs)) TableFull Done)))
 
 -- The pair that is added, and its words.
 abbrev pub newPair : NewPair → Pair
@@ -207,11 +207,11 @@ addedIf ws p BadPair = ws
 addedIf ws p NothingToRemove = ws
 
 unfoldable pub added : List ℕ → NewPair → List ℕ
-added ws p = addedIf ws p (addOutcome ws p)
+added ws p = addedIf ws p (addOutcome (pairs ws) p)
 
 -- 'A removal, whatever it names: 29 only.'
-unfoldable pub removeOutcome : List ℕ → ℕ → ℕ → Outcome
-removeOutcome ws protocol spi = cond (live protocol spi (pairs ws)) Done NothingToRemove
+unfoldable pub removeOutcome : List Pair → ℕ → ℕ → Outcome
+removeOutcome qs protocol spi = cond (live protocol spi qs) Done NothingToRemove
 
 abbrev pub clearedAt : List ℕ → Place → List ℕ
 clearedAt ws (At i) = set ws (i * placeWords) 0

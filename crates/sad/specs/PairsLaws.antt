@@ -200,18 +200,18 @@ module _ (ws : List ℕ) (number : ℕ) (vs : List ℕ) (best : ℕ) (e : chosen
 
 -- A removal by the place of the pair.
 module _ (ws : List ℕ) (protocol spi : ℕ) where
-  pub removed-none : placeOf ws protocol spi ≡ Nowhere → (NothingToRemove ≡ removeOutcome ws protocol spi) × (ws ≡ removed ws protocol spi)
+  pub removed-none : placeOf ws protocol spi ≡ Nowhere → (NothingToRemove ≡ removeOutcome (pairs ws) protocol spi) × (ws ≡ removed ws protocol spi)
   unfolding removeOutcome removed
   removed-none e = (rw (live-place ws protocol spi 0 placeCount, e), rw e)
 
   pub removed-at : (i : ℕ) → placeOf ws protocol spi ≡ At i
-      → (Done ≡ removeOutcome ws protocol spi) × (set ws (i * placeWords) 0 ≡ removed ws protocol spi)
+      → (Done ≡ removeOutcome (pairs ws) protocol spi) × (set ws (i * placeWords) 0 ≡ removed ws protocol spi)
   unfolding removeOutcome removed
   removed-at i e = (rw (live-place ws protocol spi 0 placeCount, e), rw e)
 
 -- 'An added pair: 25, 28, 26, 27': each refusal after those before it, and then the pair takes the lowest free place.
 abbrev pub Answers : List ℕ → NewPair → Outcome → List ℕ → Type 0
-Answers ws p outcome after = (outcome ≡ addOutcome ws p) × (after ≡ added ws p)
+Answers ws p outcome after = (outcome ≡ addOutcome (pairs ws) p) × (after ≡ added ws p)
 
 module _ (ws : List ℕ) (p : NewPair) where
   pub add-reserved : reservedSpi p ≡ true → Answers ws p ReservedSpi ws

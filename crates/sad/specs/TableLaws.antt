@@ -239,9 +239,9 @@ module _ (ws : List ℕ) (p : NewPair) (j : ℕ) (e : freePlace ws ≡ At j) (si
 
 -- The table after any addition: a refusal changes nothing, and where the pair is taken it stands among the others.
 module _ (ws : List ℕ) (p : NewPair) where
-  pub refused-kept : (addOutcome ws p ≡ Done → ⊥) → added ws p ≡ ws
+  pub refused-kept : (addOutcome (pairs ws) p ≡ Done → ⊥) → added ws p ≡ ws
   unfolding added
-  refused-kept n = by (addOutcome ws p) n
+  refused-kept n = by (addOutcome (pairs ws) p) n
     where
       by : (o : Outcome) → (o ≡ Done → ⊥) → addedIf ws p o ≡ ws
       by Done n = absurd (n refl)
@@ -251,7 +251,7 @@ module _ (ws : List ℕ) (p : NewPair) where
       by BadPair n = refl
       by NothingToRemove n = refl
 
-  done-free : addOutcome ws p ≡ Done → (ipsec (p .protocol) ≡ true) × (leb placeCount (length (pairs ws)) ≡ false)
+  done-free : addOutcome (pairs ws) p ≡ Done → (ipsec (p .protocol) ≡ true) × (leb placeCount (length (pairs ws)) ≡ false)
   unfolding addOutcome wellFormed
   done-free e =
       by (reservedSpi p) (wellFormed p) refl (live (p .protocol) (p .«spi_in») (pairs ws)) (leb placeCount (length (pairs ws))) refl e
@@ -268,19 +268,19 @@ module _ (ws : List ℕ) (p : NewPair) where
           (both-true (ipsec (p .protocol)) _ (both-true _ (leb (p .number) 255) a .0) .0, g)
 
   module _ (size : length ws ≡ placeCount * placeWords) where
-    pub pairs-after-add : addOutcome ws p ≡ Done
+    pub pairs-after-add : addOutcome (pairs ws) p ≡ Done
         → (j : ℕ) × (pairs ws ≡ pairsBefore ws j ++ pairsAfter ws j) × (pairs (added ws p) ≡ pairsBefore ws j ++ newPair p ∷ pairsAfter ws j)
     unfolding added
     pairs-after-add e = by (freePlace ws) refl
       where
         by : (f : Place) → freePlace ws ≡ f
-            → (j : ℕ) × (pairs ws ≡ pairsBefore ws j ++ pairsAfter ws j) × (pairs (addedIf ws p (addOutcome ws p)) ≡ pairsBefore ws j ++ newPair p ∷ pairsAfter ws j)
+            → (j : ℕ) × (pairs ws ≡ pairsBefore ws j ++ pairsAfter ws j) × (pairs (addedIf ws p (addOutcome (pairs ws) p)) ≡ pairsBefore ws j ++ newPair p ∷ pairsAfter ws j)
         by (At j) f = (j, pairs-adding ws p j f size, rw (e, f) (pairs-added ws p j f size (done-free e .0)))
         by Nowhere f = absurd (omega (arith, leb-false placeCount (length (pairs ws)) (done-free e .1), none-free ws 0 placeCount f))
 
     pub size-after-add : length (added ws p) ≡ placeCount * placeWords
     unfolding added
-    size-after-add = by (addOutcome ws p)
+    size-after-add = by (addOutcome (pairs ws) p)
       where
         put : (f : Place) → freePlace ws ≡ f → length (putAt ws p f) ≡ placeCount * placeWords
         put (At j) f = length-paste ws (j * placeWords) (pairWords p) placeWords (room ws p j f size) (words-all ws p j f size) ∙ size
@@ -296,7 +296,7 @@ module _ (ws : List ℕ) (p : NewPair) where
 
 -- And after any removal.
 module _ (ws : List ℕ) (protocol spi : ℕ) (size : length ws ≡ placeCount * placeWords) where
-  pub pairs-after-remove : removeOutcome ws protocol spi ≡ Done
+  pub pairs-after-remove : removeOutcome (pairs ws) protocol spi ≡ Done
       → (j : ℕ) × (named protocol spi (pairAt ws j) ≡ true) × (pairs ws ≡ pairsBefore ws j ++ pairAt ws j ∷ pairsAfter ws j)
       × (pairs (removed ws protocol spi) ≡ pairsBefore ws j ++ pairsAfter ws j)
   unfolding removeOutcome
@@ -307,16 +307,16 @@ module _ (ws : List ℕ) (protocol spi : ℕ) (size : length ws ≡ placeCount *
           × (pairs (removed ws protocol spi) ≡ pairsBefore ws j ++ pairsAfter ws j)
       by (At j) f = (j, pairs-removing ws protocol spi j f size .1, pairs-removing ws protocol spi j f size .0, pairs-removed ws protocol spi j f size)
       by Nowhere f =
-          let n : NothingToRemove ≡ removeOutcome ws protocol spi = removed-none ws protocol spi f .0 in
+          let n : NothingToRemove ≡ removeOutcome (pairs ws) protocol spi = removed-none ws protocol spi f .0 in
           let z : _≡_ {A = ℕ} 0 1 = cc in
           absurd (omega arith)
 
-  pub nothing-kept : removeOutcome ws protocol spi ≡ NothingToRemove → removed ws protocol spi ≡ ws
+  pub nothing-kept : removeOutcome (pairs ws) protocol spi ≡ NothingToRemove → removed ws protocol spi ≡ ws
   nothing-kept e = by (placeOf ws protocol spi) refl
     where
       by : (f : Place) → placeOf ws protocol spi ≡ f → removed ws protocol spi ≡ ws
       by (At j) f =
-          let n : Done ≡ removeOutcome ws protocol spi = removed-at ws protocol spi j f .0 in
+          let n : Done ≡ removeOutcome (pairs ws) protocol spi = removed-at ws protocol spi j f .0 in
           let z : _≡_ {A = ℕ} 0 1 = cc in
           absurd (omega arith)
       by Nowhere f = sym (removed-none ws protocol spi f .1)

@@ -396,7 +396,7 @@ fn write(table: &mut [u64], place: usize, words: [u64; 24])
 
 // Adds a pair at the lowest free place. 'An added pair: 25, 28, 26, 27'; a refusal changes nothing.
 pub fn add(table: &mut [u64; 1536], pair: NewPair) -> Outcome
-    ensures { λ r. ⌜ (r ≡ addOutcome (now (table .entry)) pair) × (now (table .exit) ≡ added (now (table .entry)) pair) ⌝ }
+    ensures { λ r. ⌜ (r ≡ addOutcome (pairs (now (table .entry))) pair) × (now (table .exit) ≡ added (now (table .entry)) pair) ⌝ }
 {
     if is_reserved(pair) {
         return Outcome::ReservedSpi;
@@ -417,7 +417,7 @@ pub fn add(table: &mut [u64; 1536], pair: NewPair) -> Outcome
 
 // Removes a pair, so that its place is free. 'A removal, whatever it names: 29 only.'
 pub fn remove(table: &mut [u64; 1536], protocol: u64, spi_in: u32) -> Outcome
-    ensures { λ r. ⌜ (r ≡ removeOutcome (now (table .entry)) protocol «spi_in») × (now (table .exit) ≡ removed (now (table .entry)) protocol «spi_in») ⌝ }
+    ensures { λ r. ⌜ (r ≡ removeOutcome (pairs (now (table .entry))) protocol «spi_in») × (now (table .exit) ≡ removed (now (table .entry)) protocol «spi_in») ⌝ }
 {
     let found = place_of(table, protocol, spi_in as u64);
     let Place::At(place) = found else {

@@ -25,18 +25,30 @@ returns c = rw (sym (c .before .before .read .ensures) ∙ c .enum-told .given .
 
 -- A packet that was read.
 known : (c : tie.After-known-told)
-    → readPacket In (now (c .before .before .before .before .before .before .args .bytes)) ≡ Readable (c .before .reading .given .0 .0)
+    → readPacket In (now (c .before .before .before .before .before .args .bytes)) ≡ Readable (c .before .reading .given .0 .0)
 known c = sym (c .before .before .before .read .ensures) ∙ c .before .reading .given .1
+
+address-of-requires : tie.Need-address-of-requires
+address-of-requires c κs = search needs
 
 for-gateway-requires : tie.Need-for-gateway-requires
 for-gateway-requires c κs = search needs
 
 to-ipsec-requires : tie.Need-to-ipsec-requires
-to-ipsec-requires c κs = known (c .before .before)
+to-ipsec-requires c κs = known (c .before .before .before)
 
 returns-2 : tie.Need-returns-2
 unfolding inboundCached inboundBy
-returns-2 c = rw (known (c .before .before .before), sym (c .before .before .for-gateway .ensures) ∙ c .before .if1 .taken, c .to-ipsec .ensures)
+returns-2 c =
+    rw (
+      known (c .before .before .before .before),
+      sym (c .before .before .before .address-of .ensures),
+      sym (c .before .before .for-gateway .ensures) ∙ c .before .if1 .taken,
+      c .to-ipsec .ensures,
+    )
+
+rows-of-requires : tie.Need-rows-of-requires
+rows-of-requires c κs = search needs
 
 lookup-requires : tie.Need-lookup-requires
 lookup-requires c κs = search needs
@@ -48,10 +60,12 @@ returns-3 : tie.Need-returns-3
 unfolding inboundCached inboundBy
 returns-3 c =
     rw (
-      known (c .before .before .before .before .before),
-      sym (c .before .before .before .before .for-gateway .ensures) ∙ c .before .before .before .if1 .left,
+      known (c .before .before .before .before .before .before .before),
+      sym (c .before .before .before .before .before .before .address-of .ensures),
+      sym (c .before .before .before .before .before .for-gateway .ensures) ∙ c .before .before .before .before .if1 .left,
       c .inbound-action .ensures,
       c .before .before .lookup .ensures,
+      c .before .before .before .rows-of .ensures,
     )
 
 pub inbound-spec : {M : Type 1} → statement M
@@ -62,9 +76,11 @@ inbound-spec =
     enum-known-reading
     enum-told
     returns
+    address-of-requires
     for-gateway-requires
     to-ipsec-requires
     returns-2
+    rows-of-requires
     lookup-requires
     inbound-action-requires
     returns-3)

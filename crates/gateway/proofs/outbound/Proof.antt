@@ -19,6 +19,9 @@ returns : tie.Need-returns
 unfolding outboundCached outboundBy
 returns c = rw (sym (c .before .before .read .ensures) ∙ c .enum-told .given .1)
 
+rows-of-requires : tie.Need-rows-of-requires
+rows-of-requires c κs = search needs
+
 lookup-requires : tie.Need-lookup-requires
 lookup-requires c κs = search needs
 
@@ -29,9 +32,10 @@ returns-2 : tie.Need-returns-2
 unfolding outboundCached outboundBy
 returns-2 c =
     rw (
-      sym (c .before .before .before .before .before .before .before .read .ensures) ∙ c .before .before .before .before .before .reading .given .1,
+      sym (c .before .before .before .before .before .before .before .before .read .ensures) ∙ c .before .before .before .before .before .before .reading .given .1,
       c .outbound-action .ensures,
       c .before .before .lookup .ensures,
+      c .before .before .before .rows-of .ensures,
     )
 
 pub outbound-spec : {M : Type 1} → statement M
@@ -42,6 +46,7 @@ outbound-spec =
     enum-known-reading
     enum-told
     returns
+    rows-of-requires
     lookup-requires
     outbound-action-requires
     returns-2)

@@ -1,0 +1,12 @@
+pub mod Among
+pub mod Decides
+pub mod Exactly
+pub mod Named
+pub mod Terms
+pub mod TermsLaws
+pub mod PacketRules
+pub mod PairRules
+pub mod FileRules
+pub mod Answers
+pub mod Complete
+pub mod Unchanged

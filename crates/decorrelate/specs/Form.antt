@@ -1,0 +1,42 @@
+-- The normal form of a policy of IPv4, its words, and what laying it out leaves. Assumes nothing: these are definitions.
+use Prim.Native.Nat.{ℕ, _*_}
+use mathlib.Core.Path.{_≡_}
+use mathlib.Core.Bool.{cond}
+use mathlib.Core.List.{List, [], _∷_, _++_}
+use lib.Dec.{leb}
+use lib.ListN.{length, take}
+use Rattle.selectors.specs.Range.{ipv4Sizes}
+use Rattle.selectors.specs.declared.Direction.{Direction}
+use Rattle.selectors.specs.declared.Direction.the-variants.{Out, In}
+use Rattle.normal_form.specs.Search.{Row}
+use Rattle.policy.specs.declared.Action.{Action}
+use Rattle.policy.specs.Policy.{PolicyRow, policyNormalForm}
+use Rattle.policy.specs.Words.{actionWord, rowWords}
+use Rattle.policy_text.specs.RowWords.{rangesWords}
+use Rattle.layout.specs.Laid.{roomFor}
+use Rattle.layout.specs.declared.Laid.{Laid}
+use Rattle.layout.specs.declared.Laid.the-variants.{Rows, Over, NoRoom}
+
+-- The normal form of a policy of IPv4 for one direction.
+abbrev pub form : Direction → List PolicyRow → List (Row Action)
+form d rs = policyNormalForm ipv4Sizes d rs
+
+-- The words of a row: 0, which a policy reads as a row for both directions, the action's word, and the ranges.
+abbrev pub formRowWords : Row Action → List ℕ
+formRowWords r = 0 ∷ actionWord (r .leaf) ∷ rangesWords (r .ranges)
+
+unfoldable pub formWords : List (Row Action) → List ℕ
+formWords [] = []
+formWords (r ∷ L) = formRowWords r ++ formWords L
+
+-- What laying out a normal form leaves. The rest of the room, and all of it where the answer is `Over`, is left open: it is scratch.
+pub record FormOutcome (limit : ℕ) (d : Direction) (rs : List PolicyRow) (room room′ : List ℕ) (r : Laid) : Type 0 where
+  pub answer : r
+      ≡ cond (leb (roomFor limit) (length room)) (cond (leb (length (form d rs)) limit) (Rows (length (form d rs))) Over) NoRoom
+  pub words : (n : ℕ) → r ≡ Rows n → take (n * rowWords) room′ ≡ formWords (form d rs)
+  pub untouched : r ≡ NoRoom → room′ ≡ room
+
+-- Document 01's number of a way, which answer 22 carries: 1 for out and 2 for in.
+abbrev pub directionNumber : Direction → ℕ
+directionNumber Out = 1
+directionNumber In = 2

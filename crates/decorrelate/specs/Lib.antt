@@ -1,0 +1,5 @@
+pub mod Form
+pub mod FormLaws
+pub mod Agree
+pub mod AgreeLaws
+pub mod PruneLaws

@@ -1,0 +1,3 @@
+pub mod Normalise
+pub mod Steps
+pub mod Demand3

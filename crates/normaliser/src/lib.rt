@@ -1,0 +1,75 @@
+// Normalising: a policy file and a direction to the normal-form file (document 01, 'One normal form').
+ghost use mathlib.Core.Path.{_≡_};
+ghost use lib.ListN.{length};
+ghost use Rattle.policy.specs.Words.{policyRows};
+ghost use Rattle.policy_text.specs.Format.{rows, parsePolicy};
+ghost use Rattle.policy_print.specs.Printing.{printed, printedIn, printedRoom};
+ghost use Rattle.normaliser.specs.Normalise.{normalised, normalisedBytes};
+ghost use Rattle.normaliser.specs.Steps.{answered};
+use decorrelate::FORM_ROOM;
+use decorrelate::LIMIT;
+use decorrelate::POLICY_WORDS;
+use layout::Laid;
+use policy::ROW_WORDS;
+use policy_print::Printed;
+use policy_text::Parsed;
+use selectors::Direction;
+
+pub enum Normalised {
+    // 5: the count of bytes printed.
+    Printed(usize),
+    // 23: the first nine bytes aren't the header line.
+    NotHeader,
+    // 24: the last byte isn't LF.
+    NotEnded,
+    // 21: too many rows.
+    TooMany,
+    // 20: a bad row, with its number, the first being 1.
+    BadRow(usize),
+    // 22: the normal form for the direction has too many rows.
+    TooLarge(Direction),
+    // 31: the lent room is shorter than the printed file.
+    NoRoom,
+}
+
+fn print_rows(rows: &[u64], direction: Direction, out: &mut [u8]) -> Normalised
+    ensures { λ r. ⌜ r ≡ answered (printedIn (length (now (out .entry))) (printed direction (policyRows (now (rows .entry))))) ⌝ }
+    ensures { λ _. ⌜ now (out .exit) ≡ printedRoom (now (out .entry)) (printed direction (policyRows (now (rows .entry)))) ⌝ }
+{
+    let done = policy_print::print(rows, direction, out);
+    match done {
+        Printed::Bytes(count) => Normalised::Printed(count),
+        Printed::NoRoom => Normalised::NoRoom,
+    }
+}
+
+// Lays a policy's rows out and prints them.
+fn print_form(policy: &[u64], direction: Direction, out: &mut [u8]) -> Normalised
+    ensures { λ r. ⌜ r ≡ normalised 256 direction (length (now (out .entry))) (rows (policyRows (now (policy .entry)))) ⌝ }
+    ensures { λ _. ⌜ now (out .exit) ≡ normalisedBytes 256 direction (now (out .entry)) (rows (policyRows (now (policy .entry)))) ⌝ }
+{
+    let mut room = [0u64; FORM_ROOM];
+    let laid = decorrelate::normal_form(policy, direction, &mut room);
+    match laid {
+        Laid::Rows(n) => print_rows(&room[..n * ROW_WORDS], direction, out),
+        Laid::Over => Normalised::TooLarge(direction),
+        Laid::NoRoom => Normalised::NoRoom,
+    }
+}
+
+// The normal-form file of a policy file for a direction, at the start of the lent bytes; a refusal leaves them as they were.
+pub fn normalise(bytes: &[u8], direction: Direction, out: &mut [u8]) -> Normalised
+    ensures { λ r. ⌜ r ≡ normalised 256 direction (length (now (out .entry))) (parsePolicy 256 (now (bytes .entry))) ⌝ }
+    ensures { λ _. ⌜ now (out .exit) ≡ normalisedBytes 256 direction (now (out .entry)) (parsePolicy 256 (now (bytes .entry))) ⌝ }
+{
+    let mut policy = [0u64; POLICY_WORDS];
+    let parsed = policy_parse::parse(bytes, LIMIT, &mut policy);
+    match parsed {
+        Parsed::Rows(n) => print_form(&policy[..n * ROW_WORDS], direction, out),
+        Parsed::NotHeader => Normalised::NotHeader,
+        Parsed::NotEnded => Normalised::NotEnded,
+        Parsed::TooMany => Normalised::TooMany,
+        Parsed::BadRow(row) => Normalised::BadRow(row),
+        Parsed::NoRoom => Normalised::NoRoom,
+    }
+}

@@ -1,0 +1,61 @@
+// Whether two policy files are the same policy in a direction: every search of one gives what it gives of the other.
+ghost use mathlib.Core.Path.{_≡_};
+ghost use Rattle.policy.specs.Words.{policyRows};
+ghost use Rattle.policy_text.specs.Format.{rows as rowsIn, parsePolicy};
+ghost use Rattle.same_policy.specs.Same.{compared};
+use decorrelate::LIMIT;
+use decorrelate::POLICY_WORDS;
+use policy::ROW_WORDS;
+use policy_text::Parsed;
+use selectors::Direction;
+
+pub enum Compared {
+    Same,
+    Different,
+    // A file that is no policy: the parser's refusal.
+    FirstRefused(Parsed),
+    SecondRefused(Parsed),
+}
+
+// Compares the rows of two policies.
+fn compare_rows(first: &[u64], second: &[u64], direction: Direction) -> Compared
+    ensures { λ r. ⌜ r ≡ compared direction (rowsIn (policyRows (now (first .entry)))) (rowsIn (policyRows (now (second .entry)))) ⌝ }
+{
+    let same = decorrelate::same(first, second, direction);
+    if same {
+        return Compared::Same;
+    }
+    Compared::Different
+}
+
+// Compares a policy's rows with a file.
+fn compare_file(first: &[u64], second: &[u8], direction: Direction) -> Compared
+    ensures { λ r. ⌜ r ≡ compared direction (rowsIn (policyRows (now (first .entry)))) (parsePolicy 256 (now (second .entry))) ⌝ }
+{
+    let mut room = [0u64; POLICY_WORDS];
+    let parsed = policy_parse::parse(second, LIMIT, &mut room);
+    match parsed {
+        Parsed::Rows(n) => compare_rows(first, &room[..n * ROW_WORDS], direction),
+        Parsed::NotHeader => Compared::SecondRefused(Parsed::NotHeader),
+        Parsed::NotEnded => Compared::SecondRefused(Parsed::NotEnded),
+        Parsed::TooMany => Compared::SecondRefused(Parsed::TooMany),
+        Parsed::BadRow(row) => Compared::SecondRefused(Parsed::BadRow(row)),
+        Parsed::NoRoom => Compared::SecondRefused(Parsed::NoRoom),
+    }
+}
+
+// Compares two policy files in a direction. A refusal is that of the first file that is refused.
+pub fn same_policy(first: &[u8], second: &[u8], direction: Direction) -> Compared
+    ensures { λ r. ⌜ r ≡ compared direction (parsePolicy 256 (now (first .entry))) (parsePolicy 256 (now (second .entry))) ⌝ }
+{
+    let mut room = [0u64; POLICY_WORDS];
+    let parsed = policy_parse::parse(first, LIMIT, &mut room);
+    match parsed {
+        Parsed::Rows(n) => compare_file(&room[..n * ROW_WORDS], second, direction),
+        Parsed::NotHeader => Compared::FirstRefused(Parsed::NotHeader),
+        Parsed::NotEnded => Compared::FirstRefused(Parsed::NotEnded),
+        Parsed::TooMany => Compared::FirstRefused(Parsed::TooMany),
+        Parsed::BadRow(row) => Compared::FirstRefused(Parsed::BadRow(row)),
+        Parsed::NoRoom => Compared::FirstRefused(Parsed::NoRoom),
+    }
+}

@@ -1,0 +1,245 @@
+-- What holds of a gateway after every sequence of calls. Assumes nothing.
+use Prim.Native.Nat.{ℕ, _+_, _*_, _≤_, _%_}
+use native.Mathlib.Omega.{arith}
+use mathlib.Core.Path.{_≡_, refl, sym, ap, _∙_, subst}
+use mathlib.Core.Bool.{Bool, true, false, cond}
+use mathlib.Core.List.{List, [], _∷_, map, List·Memᴰ, List·Memᴰ·head, List·Memᴰ·tail, List·Memᴰ·cases-cons, List·Memᴰ·not-nil}
+use mathlib.Core.Logic.{_⊎_, inl, inr, ⊎-elim}
+use mathlib.Core.Option.{Option, none, some}
+use lib.Dec.{leb}
+use lib.ListN.{length, length-replicate}
+use borrow.Author.Tests.{leb-true}
+use Rattle.selectors.specs.declared.Direction.{Direction}
+use Rattle.selectors.specs.declared.Direction.the-variants.{Out, In}
+use Rattle.packet.specs.Read.{readPacket}
+use Rattle.packet.specs.declared.Reading.{Reading}
+use Rattle.packet.specs.declared.Reading.the-variants.{Readable, Unreadable}
+use Rattle.policy.specs.Policy.{PolicyRow}
+use Rattle.policy.specs.Words.{policyRows}
+use Rattle.policy_text.specs.Format.{Policy, refused, rows, parsePolicy}
+use Rattle.policy_text.specs.declared.Parsed.{Parsed}
+use Rattle.policy_text.specs.declared.Parsed.the-variants.{Rows, NotHeader, NotEnded, TooMany, BadRow, NoRoom}
+use Rattle.layout.specs.NormalRows.{bothWays}
+use Rattle.decorrelate.specs.Form.{form}
+use Rattle.decorrelate.specs.FormLaws.{form-words-rows}
+use Rattle.spd_cache.specs.declared.Cache.{Cache}
+use Rattle.spd_cache.specs.Cache.{cached, emptyCache, lookedUp}
+use Rattle.spd_cache.specs.SlotLaws.{Filled, empty-filled, empty-cached, lookup-filled, lookup-mem}
+use Rattle.spd.specs.declared.Caches.{Caches}
+use Rattle.spd.specs.Spd.{formLimit, spdWords, addressOf, rowsOf, spdAfter, emptyCaches, cachesAfter}
+use Rattle.spd.specs.SpdLaws.{Within, empty-within, spd-rows}
+use Rattle.sad.specs.Pairs.{placeCount, placeWords}
+use Rattle.sad.specs.TableLaws.{size-after-add, size-after-remove}
+use Rattle.gateway.specs.Calls.{shows, forGateway}
+use Rattle.gateway.specs.Cached.{outboundCache, outboundCached, inboundCache, inboundCached}
+use Rattle.sequences.specs.Sequence.{Gateway, Call, policy, add, remove, outbound, inbound, fromSa, fresh, after, run}
+use Rattle.sequences.specs.Current.{acceptedRows, accepts, instead, searched, shownOut, shownIn, currentFrom, current}
+
+-- The cache of a direction, and after a search of values.
+abbrev pub cacheOf : Direction → Caches → Cache
+cacheOf Out c = c .outbound
+cacheOf In c = c .inbound
+
+abbrev pub cacheSearched : Direction → List ℕ → Cache → Option (List ℕ) → Cache
+cacheSearched d ws c none = c
+cacheSearched d ws c (some vs) = lookedUp c ws d vs .cache
+
+-- The words and the caches after a policy file, by the rows that are accepted.
+abbrev spdOr : List ℕ → Option (List PolicyRow) → List ℕ
+spdOr ws none = ws
+spdOr ws (some rs) = spdWords (addressOf ws) rs
+
+abbrev cachesOr : Caches → Option (List PolicyRow) → Caches
+cachesOr c none = c
+cachesOr c (some rs) = emptyCaches
+
+spd-settled : (ws : List ℕ) (f : Policy) → spdAfter formLimit ws f ≡ spdOr ws (acceptedRows f)
+spd-settled ws (refused p) = refl
+spd-settled ws (rows rs) = by (leb (length (form Out rs)) formLimit) refl (leb (length (form In rs)) formLimit) refl
+  where
+    by : (a : Bool) → leb (length (form Out rs)) formLimit ≡ a → (b : Bool) → leb (length (form In rs)) formLimit ≡ b
+        → spdAfter formLimit ws (rows rs) ≡ spdOr ws (acceptedRows (rows rs))
+    by true e true f = rw (e, f)
+    by true e false f = rw (e, f)
+    by false e b f = rw e
+
+caches-settled : (c : Caches) (f : Policy) → cachesAfter formLimit c f ≡ cachesOr c (acceptedRows f)
+caches-settled c (refused p) = kept p
+  where
+    kept : (p : Parsed) → cachesAfter formLimit c (refused p) ≡ c
+    kept (Rows n) = refl
+    kept NotHeader = refl
+    kept NotEnded = refl
+    kept TooMany = refl
+    kept (BadRow i) = refl
+    kept NoRoom = refl
+caches-settled c (rows rs) = by (leb (length (form Out rs)) formLimit) refl (leb (length (form In rs)) formLimit) refl
+  where
+    by : (a : Bool) → leb (length (form Out rs)) formLimit ≡ a → (b : Bool) → leb (length (form In rs)) formLimit ≡ b
+        → cachesAfter formLimit c (rows rs) ≡ cachesOr c (acceptedRows (rows rs))
+    by true e true f = rw (e, f)
+    by true e false f = rw (e, f)
+    by false e b f = rw e
+
+none≢some : (rs : List PolicyRow) → _≡_ {A = Option (List PolicyRow)} none (some rs) → ⊥
+none≢some rs e = let z : _≡_ {A = ℕ} 0 1 = cc in omega arith
+
+both-within : (rs : List PolicyRow) → leb (length (form Out rs)) formLimit ≡ true → leb (length (form In rs)) formLimit ≡ true → Within rs
+both-within rs g h = record { out-within = leb-true _ _ g; in-within = leb-true _ _ h }
+
+accepted-within : (f : Policy) (rs : List PolicyRow) → acceptedRows f ≡ some rs → Within rs
+accepted-within (refused p) rs e = absurd (none≢some rs e)
+accepted-within (rows qs) rs e = by (leb (length (form Out qs)) formLimit) refl (leb (length (form In qs)) formLimit) refl
+  where
+    by : (a : Bool) → leb (length (form Out qs)) formLimit ≡ a → (b : Bool) → leb (length (form In qs)) formLimit ≡ b → Within rs
+    by true g true h = let same : qs ≡ rs = cc (rw (g, h) at e) in subst Within same (both-within qs g h)
+    by true g false h = absurd (none≢some rs (rw (g, h) at e))
+    by false g b h = absurd (none≢some rs (rw g at e))
+
+-- The cache of a direction, when a policy with these rows is current: its slots are filled from the first on, and each row that it holds
+-- is one of the normal form's.
+pub record Holding (d : Direction) (rs : List PolicyRow) (c : Cache) : Type 0 where
+  pub filled : Filled c
+  pub rows-of : (r : PolicyRow) → List·Memᴰ r (cached c) → List·Memᴰ r (map bothWays (form d rs))
+
+empty-holding : (d : Direction) (rs : List PolicyRow) → Holding d rs emptyCache
+empty-holding d rs = record { filled = empty-filled; rows-of = λ r m. absurd (List·Memᴰ·not-nil (rw empty-cached at m)) }
+
+module _ (d : Direction) (rs : List PolicyRow) (ws : List ℕ) (is : policyRows ws ≡ map bothWays (form d rs)) where
+  search-holding : (c : Cache) → Holding d rs c → (o : Option (List ℕ)) → Holding d rs (cacheSearched d ws c o)
+  search-holding c h none = h
+  search-holding c h (some vs) =
+      record {
+        filled = lookup-filled c ws d vs (h .filled);
+        rows-of = λ r m. ⊎-elim (h .rows-of r) (λ q. rw is at q) (lookup-mem c ws d vs (h .filled) r m);
+      }
+
+-- A gateway with this address, when these rows are the current policy.
+pub record Sound (address : ℕ) (rs : List PolicyRow) (g : Gateway) : Type 0 where
+  pub policy-words : g .spd ≡ spdWords address rs
+  pub within : Within rs
+  pub pair-words : length (g .sad) ≡ placeCount * placeWords
+  pub holding : (d : Direction) → Holding d rs (cacheOf d (g .caches))
+
+pub fresh-sound : (address : ℕ) → Sound address [] (fresh address)
+fresh-sound address =
+    record {
+      policy-words = refl;
+      within = empty-within;
+      pair-words = length-replicate {A = ℕ} (placeCount * placeWords) 0;
+      holding = empty-each;
+    }
+  where
+    empty-each : (d : Direction) → Holding d [] (cacheOf d emptyCaches)
+    empty-each Out = empty-holding Out []
+    empty-each In = empty-holding In []
+
+-- The caches after a packet: what it searches.
+out-cache : (c : Cache) (ws : List ℕ) (a : ℕ) (q : _) (p : List ℕ) → outboundCached c ws q p .cache ≡ cacheSearched Out ws c (searched Out a (outbound p))
+unfolding outboundCached
+out-cache c ws a q p = by (readPacket Out p)
+  where
+    by : (r : Reading) → outboundCache c ws r ≡ cacheSearched Out ws c (shownOut r)
+    by (Readable k) = refl
+    by Unreadable = refl
+
+in-cache : (c : Cache) (ws : List ℕ) (a : ℕ) (q : _) (p : List ℕ) → inboundCached c ws a q p .cache ≡ cacheSearched In ws c (searched In a (inbound p))
+unfolding inboundCached
+in-cache c ws a q p = by (readPacket In p)
+  where
+    for : (b : Bool) (vs : List ℕ) → cond b c (lookedUp c ws In vs .cache) ≡ cacheSearched In ws c (cond b none (some vs))
+    for true vs = refl
+    for false vs = refl
+
+    by : (r : Reading) → inboundCache c ws a r ≡ cacheSearched In ws c (shownIn a r)
+    by (Readable k) = for (forGateway a k) (shows k)
+    by Unreadable = refl
+
+-- The policy words and the caches after any call, by what it accepts and what it searches.
+abbrev pub cacheOr : Cache → Option (List PolicyRow) → Cache
+cacheOr c none = c
+cacheOr c (some rs) = emptyCache
+
+caches-each : (d : Direction) (c : Caches) (o : Option (List PolicyRow)) → cacheOf d (cachesOr c o) ≡ cacheOr (cacheOf d c) o
+caches-each Out c none = refl
+caches-each Out c (some rs) = refl
+caches-each In c none = refl
+caches-each In c (some rs) = refl
+
+pub spd-after : (g : Gateway) (c : Call) → after g c .spd ≡ spdOr (g .spd) (accepts c)
+unfolding after
+spd-after g (policy s) = spd-settled (g .spd) (parsePolicy formLimit s)
+spd-after g (add p) = refl
+spd-after g (remove protocol spi) = refl
+spd-after g (outbound p) = refl
+spd-after g (inbound p) = refl
+spd-after g (fromSa protocol spi p) = refl
+
+pub cache-after : (d : Direction) (g : Gateway) (c : Call)
+    → cacheOf d (after g c .caches) ≡ cacheOr (cacheSearched d (rowsOf (g .spd) d) (cacheOf d (g .caches)) (searched d (addressOf (g .spd)) c)) (accepts c)
+unfolding after
+cache-after Out g (policy s) = ap (cacheOf Out) (caches-settled (g .caches) (parsePolicy formLimit s)) ∙ caches-each Out (g .caches) (acceptedRows (parsePolicy formLimit s))
+cache-after In g (policy s) = ap (cacheOf In) (caches-settled (g .caches) (parsePolicy formLimit s)) ∙ caches-each In (g .caches) (acceptedRows (parsePolicy formLimit s))
+cache-after Out g (outbound p) = out-cache (g .caches .outbound) (rowsOf (g .spd) Out) (addressOf (g .spd)) _ p
+cache-after In g (inbound p) = in-cache (g .caches .inbound) (rowsOf (g .spd) In) (addressOf (g .spd)) _ p
+cache-after Out g (add p) = refl
+cache-after Out g (remove protocol spi) = refl
+cache-after Out g (inbound p) = refl
+cache-after Out g (fromSa protocol spi p) = refl
+cache-after In g (add p) = refl
+cache-after In g (remove protocol spi) = refl
+cache-after In g (outbound p) = refl
+cache-after In g (fromSa protocol spi p) = refl
+
+pub pair-words-after : (g : Gateway) (c : Call) → length (g .sad) ≡ placeCount * placeWords → length (after g c .sad) ≡ placeCount * placeWords
+unfolding after
+pair-words-after g (policy s) h = h
+pair-words-after g (add p) h = size-after-add (g .sad) p h
+pair-words-after g (remove protocol spi) h = size-after-remove (g .sad) protocol spi h
+pair-words-after g (outbound p) h = h
+pair-words-after g (inbound p) h = h
+pair-words-after g (fromSa protocol spi p) h = h
+
+accepts-within : (c : Call) (rs : List PolicyRow) → accepts c ≡ some rs → Within rs
+accepts-within (policy s) rs e = accepted-within (parsePolicy formLimit s) rs e
+accepts-within (add p) rs e = absurd (none≢some rs e)
+accepts-within (remove protocol spi) rs e = absurd (none≢some rs e)
+accepts-within (outbound p) rs e = absurd (none≢some rs e)
+accepts-within (inbound p) rs e = absurd (none≢some rs e)
+accepts-within (fromSa protocol spi p) rs e = absurd (none≢some rs e)
+
+module _ (address : ℕ) (rs : List PolicyRow) (g : Gateway) (s : Sound address rs g) where
+  -- The words that a packet call searches are the rows of the current policy's normal form.
+  pub rows-read : (d : Direction) → policyRows (rowsOf (g .spd) d) ≡ map bothWays (form d rs)
+  rows-read d = rw (s .policy-words, spd-rows address rs (s .within) d) (form-words-rows d rs)
+
+  pub address-kept : addressOf (g .spd) ≡ address
+  address-kept = rw (s .policy-words)
+
+  pub after-sound : (c : Call) → Sound address (instead rs (accepts c)) (after g c)
+  after-sound c = by (accepts c) refl
+    where
+      by : (o : Option (List PolicyRow)) → accepts c ≡ o → Sound address (instead rs o) (after g c)
+      by none e =
+          record {
+            policy-words = spd-after g c ∙ rw e (s .policy-words);
+            within = s .within;
+            pair-words = pair-words-after g c (s .pair-words);
+            holding = λ d. rw (cache-after d g c, e) (search-holding d rs (rowsOf (g .spd) d) (rows-read d) (cacheOf d (g .caches)) (s .holding d) (searched d (addressOf (g .spd)) c));
+          }
+      by (some qs) e =
+          record {
+            policy-words = spd-after g c ∙ rw e (ap (λ (a : ℕ). spdWords a qs) address-kept);
+            within = accepts-within c qs e;
+            pair-words = pair-words-after g c (s .pair-words);
+            holding = λ d. rw (cache-after d g c, e) (empty-holding d qs);
+          }
+
+-- After any sequence.
+run-sound : (address : ℕ) (rs : List PolicyRow) (g : Gateway) → Sound address rs g → (cs : List Call) → Sound address (currentFrom rs cs) (run g cs)
+unfolding run currentFrom
+run-sound address rs g s [] = s
+run-sound address rs g s (c ∷ cs) = run-sound address (instead rs (accepts c)) (after g c) (after-sound address rs g s c) cs
+
+pub sound : (address : ℕ) (cs : List Call) → Sound address (current cs) (run (fresh address) cs)
+sound address cs = run-sound address [] (fresh address) (fresh-sound address) cs

@@ -1,0 +1,126 @@
+-- The policy that a gateway holds, as words, and policy acceptance (document 01). Assumes nothing: these are definitions.
+-- The words: the gateway's address, the count of normal-form rows for out and for in, and room for 256 rows for each of the two.
+use Prim.Native.Nat.{ℕ, _-_, _*_, min}
+use mathlib.Core.Bool.{cond}
+use mathlib.Core.List.{List, _∷_, _++_}
+use lib.Dec.{leb}
+use lib.ListN.{length, getD, take, drop, replicate}
+use Rattle.selectors.specs.declared.Direction.{Direction}
+use Rattle.selectors.specs.declared.Direction.the-variants.{Out, In}
+use Rattle.policy.specs.Policy.{PolicyRow}
+use Rattle.policy.specs.Words.{rowWords}
+use Rattle.policy_text.specs.declared.Parsed.{Parsed}
+use Rattle.policy_text.specs.declared.Parsed.the-variants.{Rows, NotHeader as NoHeader, NotEnded as NoEnd, TooMany as OverRows, BadRow as Bad, NoRoom}
+use Rattle.policy_text.specs.Format.{Policy, refused, rows}
+use Rattle.decorrelate.specs.Form.{form, formWords, directionNumber}
+use Rattle.spd_cache.specs.Cache.{emptyCache}
+use Rattle.spd.specs.declared.Acceptance.{Acceptance}
+use Rattle.spd.specs.declared.Acceptance.the-variants.{Accepted, NotHeader, NotEnded, TooMany, BadRow, TooLarge}
+use Rattle.spd.specs.declared.Caches.{Caches}
+use Rattle.spd.specs.declared.Settled.{Settled}
+
+-- 22: 'normal form over 256 rows'.
+abbrev pub formLimit : ℕ
+formLimit = 256
+
+-- The words of room for one direction.
+abbrev pub formRoom : ℕ
+formRoom = 5632
+
+abbrev pub spdSize : ℕ
+spdSize = 11267
+
+-- The words, then zeros to the end of their room.
+unfoldable pub padded : List ℕ → List ℕ
+padded ws = ws ++ replicate (formRoom - length ws) 0
+
+-- The words of a gateway with this address: the counts and the words of the rows for out and for in.
+abbrev pub heldWords : ℕ → ℕ → List ℕ → ℕ → List ℕ → List ℕ
+heldWords address outCount outRows inCount inRows = address ∷ outCount ∷ inCount ∷ (padded outRows ++ padded inRows)
+
+-- The words of a gateway with this address that holds this policy: 'A fresh gate holds the gateway address it was made with, never
+-- changed, the policy without rows'.
+abbrev pub spdWords : ℕ → List PolicyRow → List ℕ
+spdWords address rs =
+    heldWords address (length (form Out rs)) (formWords (form Out rs)) (length (form In rs)) (formWords (form In rs))
+
+-- What any words mean: the address, the count of rows for a direction, never more than there is room for, and the words of those rows.
+abbrev pub addressOf : List ℕ → ℕ
+addressOf ws = getD ws 0 0
+
+abbrev pub countAt : Direction → ℕ
+countAt Out = 1
+countAt In = 2
+
+abbrev pub countOf : List ℕ → Direction → ℕ
+countOf ws d = min (getD ws (countAt d) 0) formLimit
+
+abbrev pub rowsAt : Direction → ℕ
+rowsAt Out = 3
+rowsAt In = 5635
+
+abbrev pub rowsOf : List ℕ → Direction → List ℕ
+rowsOf ws d = take (countOf ws d * rowWords) (drop (rowsAt d) ws)
+
+-- A refused file is refused with its own answer. (`Rows` and `NoRoom` refuse no file.)
+abbrev pub refusal : Parsed → Acceptance
+refusal (Rows n) = NotHeader
+refusal NoHeader = NotHeader
+refusal NoEnd = NotEnded
+refusal OverRows = TooMany
+refusal (Bad i) = BadRow i
+refusal NoRoom = NotHeader
+
+-- 'A policy is checked in the order 23, 24, 21, 20 (first bad row), 22', and 22 has the 'way, out tried first'.
+abbrev pub accepting : ℕ → Policy → Acceptance
+accepting limit (refused p) = refusal p
+accepting limit (rows rs) =
+    cond (leb (length (form Out rs)) limit)
+    (cond (leb (length (form In rs)) limit) Accepted (TooLarge In))
+    (TooLarge Out)
+
+-- 'Answers 10 and up for a policy … change nothing lent.'
+abbrev pub ifAccepted : {A : Type 0} → Acceptance → A → A → A
+ifAccepted Accepted new old = new
+ifAccepted NotHeader new old = old
+ifAccepted NotEnded new old = old
+ifAccepted TooMany new old = old
+ifAccepted (BadRow i) new old = old
+ifAccepted (TooLarge d) new old = old
+
+-- The words after a policy file. The address is 'never changed'.
+abbrev pub spdAfter : ℕ → List ℕ → Policy → List ℕ
+spdAfter limit ws (refused p) = ws
+spdAfter limit ws (rows rs) = ifAccepted (accepting limit (rows rs)) (spdWords (addressOf ws) rs) ws
+
+-- 'A fresh gate holds … empty caches.'
+abbrev pub emptyCaches : Caches
+emptyCaches = record { outbound = emptyCache; inbound = emptyCache }
+
+-- 'An accepted policy empties both caches, sets both turns to the first slot and keeps the pairs.'
+abbrev pub cachesAfter : ℕ → Caches → Policy → Caches
+cachesAfter limit c p = ifAccepted (accepting limit p) emptyCaches c
+
+-- What a policy file is answered with: the answer, and the caches after it.
+abbrev pub answer : Acceptance → Caches → Settled
+answer a c = record { acceptance = a; caches = c }
+
+abbrev pub settled : ℕ → Caches → Policy → Settled
+settled limit c p = answer (accepting limit p) (cachesAfter limit c p)
+
+-- Document 01's numbers, and what they carry: the row's number, or the way.
+abbrev pub acceptanceNumber : Acceptance → ℕ
+acceptanceNumber Accepted = 5
+acceptanceNumber NotHeader = 23
+acceptanceNumber NotEnded = 24
+acceptanceNumber TooMany = 21
+acceptanceNumber (BadRow i) = 20
+acceptanceNumber (TooLarge d) = 22
+
+abbrev pub acceptanceCarries : Acceptance → ℕ
+acceptanceCarries Accepted = 0
+acceptanceCarries NotHeader = 0
+acceptanceCarries NotEnded = 0
+acceptanceCarries TooMany = 0
+acceptanceCarries (BadRow i) = i
+acceptanceCarries (TooLarge d) = directionNumber d

@@ -1,0 +1,228 @@
+// The policies that a gateway holds, as words, and policy acceptance (document 01).
+ghost use mathlib.Core.Path.{_≡_};
+ghost use mathlib.Core.List.{[]};
+ghost use Prim.Native.Nat.{_+_, _*_, _≤_, _<_, min};
+ghost use lib.ListN.{length, getD, take};
+ghost use lib.Seq.{paste};
+ghost use Rattle.policy.specs.Words.{policyRows};
+ghost use Rattle.policy_text.specs.Format.{rows, parsePolicy};
+ghost use Rattle.spd.specs.Spd.{padded, heldWords, spdWords, addressOf, countAt, rowsAt, rowsOf, spdAfter, emptyCaches, answer, settled};
+ghost use Rattle.spd.specs.Steps.{FormRows};
+use decorrelate::FORM_ROOM;
+use decorrelate::LIMIT;
+use decorrelate::POLICY_WORDS;
+use layout::Laid;
+use policy::ROW_WORDS;
+use policy_text::Parsed;
+use selectors::Direction;
+use spd_cache::Cache;
+
+// The answer to a policy file.
+pub enum Acceptance {
+    // 5: the policy is accepted.
+    Accepted,
+    // 23: the first nine bytes aren't the header line.
+    NotHeader,
+    // 24: the last byte isn't LF.
+    NotEnded,
+    // 21: too many rows.
+    TooMany,
+    // 20: a bad row, with its number, the first being 1.
+    BadRow(usize),
+    // 22: the normal form for the direction has too many rows.
+    TooLarge(Direction),
+}
+
+// The caches of both directions.
+pub struct Caches {
+    pub outbound: Cache,
+    pub inbound: Cache,
+}
+
+// The answer to a policy file, with the caches handed back.
+pub struct Settled {
+    pub acceptance: Acceptance,
+    pub caches: Caches,
+}
+
+// The count of a normal form's rows, or that it has too many.
+enum Form {
+    Rows(usize),
+    Over,
+}
+
+// Where the rows for out begin, after the address and the counts of rows, and where those for in.
+const OUT_ROWS: usize = 3;
+
+const IN_ROWS: usize = OUT_ROWS + POLICY_WORDS;
+
+// The words of a gateway's policy.
+pub const SPD_WORDS: usize = IN_ROWS + POLICY_WORDS;
+
+fn empty_caches() -> Caches
+    ensures { λ r. ⌜ r ≡ emptyCaches ⌝ }
+{
+    Caches {
+        outbound: Cache::empty(),
+        inbound: Cache::empty(),
+    }
+}
+
+// The word at a place of the first `used` words of a list with zeros after them.
+fn padded_word(from: &[u64], used: usize, i: usize) -> u64
+    requires { ⌜ used ≤ length (now from) ⌝ }
+    ensures { λ r. ⌜ r ≡ getD (padded (take used (now (from .entry)))) i 0 ⌝ }
+{
+    if i < used { from[i] } else { 0 }
+}
+
+// Writes the first `used` words of a list and zeros after them: the room for one direction, from the place `at` on.
+fn store(words: &mut [u64], at: usize, from: &[u64], used: usize)
+    requires { ⌜ (at + 5632 ≤ length (now words)) × (used ≤ 5632) × (used ≤ length (now from)) ⌝ }
+    ensures { λ _. ⌜ now (words .exit) ≡ paste (now (words .entry)) at (padded (take used (now (from .entry)))) 5632 ⌝ }
+{
+    let mut i: usize = 0;
+    while i < POLICY_WORDS {
+        words[at + i] = padded_word(from, used, i);
+        i += 1;
+    }
+}
+
+// Writes the address, and the counts and the rows of both directions.
+fn write(
+    words: &mut [u64; SPD_WORDS],
+    address: u64,
+    out_count: usize,
+    outbound: &[u64; POLICY_WORDS],
+    in_count: usize,
+    inbound: &[u64; POLICY_WORDS],
+)
+    requires { ⌜ («out_count» ≤ 256) × («in_count» ≤ 256) ⌝ }
+    ensures { λ _. ⌜ now (words .exit) ≡ heldWords address «out_count» (take («out_count» * 22) (now (outbound .entry))) «in_count» (take («in_count» * 22) (now (inbound .entry))) ⌝ }
+{
+    words[0] = address;
+    words[1] = out_count as u64;
+    words[2] = in_count as u64;
+    store(words, OUT_ROWS, outbound, out_count * ROW_WORDS);
+    store(words, IN_ROWS, inbound, in_count * ROW_WORDS);
+}
+
+// Lays out a policy's normal form for a direction: its rows stand at the start of `form`. (The room is never too short.)
+fn lay_out(policy: &[u64], direction: Direction, form: &mut [u64; POLICY_WORDS]) -> Form
+    ensures { λ r. ⌜ FormRows direction (policyRows (now (policy .entry))) (now (form .exit)) r ⌝ }
+{
+    let mut room = [0u64; FORM_ROOM];
+    let laid = decorrelate::normal_form(policy, direction, &mut room);
+    match laid {
+        Laid::Rows(n) => {
+            store(form, 0, &room, n * ROW_WORDS);
+            Form::Rows(n)
+        }
+        Laid::Over => Form::Over,
+        Laid::NoRoom => Form::Over,
+    }
+}
+
+// A fresh gateway holds its address and the policy without rows.
+pub fn fresh(words: &mut [u64; SPD_WORDS], address: u32) -> Caches
+    ensures { λ r. ⌜ (r ≡ emptyCaches) × (now (words .exit) ≡ spdWords address []) ⌝ }
+{
+    let none = [0u64; POLICY_WORDS];
+    write(words, address as u64, 0, &none, 0, &none);
+    empty_caches()
+}
+
+fn count_at(direction: Direction) -> usize
+    ensures { λ r. ⌜ (r ≡ countAt direction) × (r < 3) ⌝ }
+{
+    match direction {
+        Direction::Out => 1,
+        Direction::In => 2,
+    }
+}
+
+fn rows_at(direction: Direction) -> usize
+    ensures { λ r. ⌜ (r ≡ rowsAt direction) × (r ≤ 5635) ⌝ }
+{
+    match direction {
+        Direction::Out => OUT_ROWS,
+        Direction::In => IN_ROWS,
+    }
+}
+
+// A count of rows, never more than there is room for.
+fn capped(count: u64) -> usize
+    ensures { λ r. ⌜ r ≡ min count 256 ⌝ }
+{
+    if count < LIMIT as u64 {
+        count as usize
+    } else {
+        LIMIT
+    }
+}
+
+// The gateway's own address.
+pub fn address_of(words: &[u64; SPD_WORDS]) -> u64
+    ensures { λ r. ⌜ r ≡ addressOf (now (words .entry)) ⌝ }
+{
+    words[0]
+}
+
+// The normal-form rows that the gateway holds for a direction, a part of the lent words.
+pub fn rows_of(words: &[u64; SPD_WORDS], direction: Direction) -> &[u64]
+    ensures { λ r. ⌜ now r ≡ rowsOf (now (words .entry)) direction ⌝ }
+{
+    let all: &[u64] = words;
+    let count = capped(all[count_at(direction)]);
+    let start = rows_at(direction);
+    let end = start + count * ROW_WORDS;
+    &all[start..end]
+}
+
+// A refusal changes nothing.
+fn refuse(acceptance: Acceptance, caches: Caches) -> Settled
+    ensures { λ r. ⌜ r ≡ answer acceptance caches ⌝ }
+{
+    Settled { acceptance, caches }
+}
+
+// Takes the rows of a policy: both normal forms are laid out before anything lent is written.
+fn load(words: &mut [u64; SPD_WORDS], caches: Caches, policy: &[u64]) -> Settled
+    ensures { λ r. ⌜ r ≡ settled 256 caches (rows (policyRows (now (policy .entry)))) ⌝ }
+    ensures { λ _. ⌜ now (words .exit) ≡ spdAfter 256 (now (words .entry)) (rows (policyRows (now (policy .entry)))) ⌝ }
+{
+    let mut outbound = [0u64; POLICY_WORDS];
+    let out_form = lay_out(policy, Direction::Out, &mut outbound);
+    let Form::Rows(out_count) = out_form else {
+        return refuse(Acceptance::TooLarge(Direction::Out), caches);
+    };
+    let mut inbound = [0u64; POLICY_WORDS];
+    let in_form = lay_out(policy, Direction::In, &mut inbound);
+    let Form::Rows(in_count) = in_form else {
+        return refuse(Acceptance::TooLarge(Direction::In), caches);
+    };
+    let address = words[0];
+    write(words, address, out_count, &outbound, in_count, &inbound);
+    Settled {
+        acceptance: Acceptance::Accepted,
+        caches: empty_caches(),
+    }
+}
+
+// The policy of a policy file replaces the one that the gateway holds, and empties the caches; a refusal changes nothing.
+// (There is room for the limit's rows.)
+pub fn accept(words: &mut [u64; SPD_WORDS], caches: Caches, bytes: &[u8]) -> Settled
+    ensures { λ r. ⌜ r ≡ settled 256 caches (parsePolicy 256 (now (bytes .entry))) ⌝ }
+    ensures { λ _. ⌜ now (words .exit) ≡ spdAfter 256 (now (words .entry)) (parsePolicy 256 (now (bytes .entry))) ⌝ }
+{
+    let mut policy = [0u64; POLICY_WORDS];
+    let parsed = policy_parse::parse(bytes, LIMIT, &mut policy);
+    match parsed {
+        Parsed::Rows(n) => load(words, caches, &policy[..n * ROW_WORDS]),
+        Parsed::NotHeader => refuse(Acceptance::NotHeader, caches),
+        Parsed::NotEnded => refuse(Acceptance::NotEnded, caches),
+        Parsed::TooMany => refuse(Acceptance::TooMany, caches),
+        Parsed::BadRow(row) => refuse(Acceptance::BadRow(row), caches),
+        Parsed::NoRoom => refuse(Acceptance::NotHeader, caches),
+    }
+}
