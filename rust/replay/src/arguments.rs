@@ -8,7 +8,8 @@ pub const HELP: &str = "\
 replay --engine core|reference [--coverage] [FILE ...]
     runs scenarios and writes a line for each operation; without FILE, reads standard input
 replay --compare [--coverage] [FILE ...]
-    runs both engines and stops at the first line where they differ
+    runs both engines and stops at the first line where they differ, with the shortest form of the
+    scenario that shows a difference
 replay --generate KIND [--seed N] [--ops N] [--items N,N,...]
     writes a scenario of N operations; the same arguments always give the same one
     KIND is policies, defects, bytes, packets, pairs, mixed, or all
@@ -18,8 +19,8 @@ replay --help
 --coverage writes a line to standard error at the end: how often each answer was given.
 Every FILE is a scenario of its own and starts afresh.
 
-exit status: 0 all done; 1 a line was no operation; 2 could not run (the arguments, a file, or an
-engine that is not here); 3 the engines differ
+exit status: 0 all done; 1 a line was no operation; 2 could not run (the arguments, or a file); 3
+the engines differ
 ";
 
 /// What the arguments ask for.

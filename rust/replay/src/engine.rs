@@ -29,7 +29,7 @@ impl EngineName {
     /// An engine at the start of a scenario.
     pub fn start(self) -> Box<dyn Engine> {
         match self {
-            EngineName::Core => Box::new(CoreEngine),
+            EngineName::Core => Box::new(CoreEngine::new()),
             EngineName::Reference => Box::new(ReferenceEngine::new()),
         }
     }

@@ -11,3 +11,4 @@ pub mod operation;
 pub mod reference_engine;
 pub mod reply;
 pub mod run;
+pub mod shrink;

@@ -5,12 +5,12 @@
 mod arguments;
 
 use arguments::{Task, HELP};
-use replay::core_engine::CORE_IS_HERE;
 use replay::coverage::Coverage;
 use replay::generate::generate;
-use replay::run::{run, Difference, End, Mode};
+use replay::run::{difference, run, Difference, End, Mode};
+use replay::shrink::shortest;
 use std::fs::File;
-use std::io::{self, BufRead, BufReader, BufWriter, Write};
+use std::io::{self, BufRead, BufReader, BufWriter, Read, Write};
 use std::process::ExitCode;
 
 const BAD_OPERATION: u8 = 1;
@@ -37,9 +37,6 @@ fn perform(task: Task) -> Result<u8, String> {
     let status = match task {
         Task::Help => output.write_all(HELP.as_bytes()).map(|()| 0),
         Task::Generate(recipe) => generate(&recipe, &mut output).map(|()| 0),
-        Task::Run { mode: Mode::Compare, .. } if !CORE_IS_HERE => {
-            return Err("the engine core is not here, so there is nothing to compare with".into());
-        }
         Task::Run { mode, coverage, files } => run_all(mode, coverage, &files, &mut output),
     };
     match status.and_then(|status| output.flush().map(|()| status)) {
@@ -62,7 +59,10 @@ fn run_all(
     let standard_input = ["-".to_string()];
     let files = if files.is_empty() { &standard_input } else { files };
     for name in files {
-        match run(open(name)?, mode, output, &mut counts)? {
+        let mut seen = Vec::new();
+        let scenario =
+            Remembering { rest: open(name)?, seen: &mut seen, on: mode == Mode::Compare };
+        match run(BufReader::new(scenario), mode, output, &mut counts)? {
             End::Finished { bad_operations: 0 } => {}
             End::Finished { bad_operations } => {
                 eprintln!("replay: {name}: {bad_operations} lines are no operation");
@@ -70,7 +70,7 @@ fn run_all(
             }
             End::Differs(difference) => {
                 output.flush()?;
-                report(name, &difference);
+                report(name, &difference, &seen);
                 status = ENGINES_DIFFER;
                 break;
             }
@@ -91,10 +91,34 @@ fn open(name: &str) -> io::Result<Box<dyn BufRead>> {
     Ok(Box::new(BufReader::new(File::open(name).map_err(with_name)?)))
 }
 
-fn report(name: &str, difference: &Difference) {
-    let Difference { line_number, operation, core, reference } = difference;
+/// A scenario that is kept as far as it was read, where that is on.
+struct Remembering<'a> {
+    rest: Box<dyn BufRead>,
+    seen: &'a mut Vec<u8>,
+    on: bool,
+}
+
+impl Read for Remembering<'_> {
+    fn read(&mut self, room: &mut [u8]) -> io::Result<usize> {
+        let count = self.rest.read(room)?;
+        if self.on {
+            self.seen.extend(&room[..count]);
+        }
+        Ok(count)
+    }
+}
+
+fn report(name: &str, found: &Difference, scenario: &[u8]) {
+    let Difference { line_number, operation, core, reference } = found;
     eprintln!("replay: {name}: the engines differ at line {line_number}");
     eprintln!("operation: {operation}");
     eprintln!("core:      {core}");
     eprintln!("reference: {reference}");
+    let lines: Vec<String> = String::from_utf8_lossy(scenario)
+        .lines()
+        .take(*line_number)
+        .map(|line| format!("{line}\n"))
+        .collect();
+    let shortest = shortest(&lines.concat(), |text| difference(text).is_some());
+    eprintln!("the shortest form of the scenario that shows a difference:\n{shortest}");
 }

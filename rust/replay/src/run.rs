@@ -47,6 +47,15 @@ pub fn run(
     }
 }
 
+/// Where the two engines differ on a scenario, if they do.
+pub fn difference(scenario: &str) -> Option<Difference> {
+    let end = run(scenario.as_bytes(), Mode::Compare, &mut io::sink(), &mut Coverage::new());
+    match end {
+        Ok(End::Differs(difference)) => Some(difference),
+        _ => None,
+    }
+}
+
 /// Runs a scenario through `engine`, and through `core` too where there is one.
 pub fn run_engines(
     scenario: impl BufRead,

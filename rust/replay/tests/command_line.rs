@@ -40,7 +40,7 @@ fn standard_input_and_bad_lines() {
     let output = replay(&["--engine", "reference"], "gate 1 2\nout -");
     check(&output, 0, "= ok\n= 10\n", "");
     let output = replay(&["--engine", "core"], "gate 1 2\nout -\n");
-    check(&output, 0, "= not here\n= not here\n", "");
+    check(&output, 0, "= ok\n= 10\n", "");
 }
 
 #[test]
@@ -64,8 +64,16 @@ fn coverage_line() {
 }
 
 #[test]
-fn comparing_needs_the_core() {
-    check(&replay(&["--compare"], "out -\n"), 2, "", "core is not here");
+fn comparing_engines_that_agree() {
+    check(&replay(&["--compare"], "out -\n"), 0, "= 10\n", "");
+}
+
+/// The reference follows request 2, and the proved library does not.
+#[test]
+fn comparing_engines_that_differ() {
+    let output = replay(&["--compare"], "gate 1 2\nout -\nitems 2\nin -\n");
+    check(&output, 3, "= ok\n= 10\n", "the engines differ at line 3");
+    assert!(text(&output.stderr).ends_with("shows a difference:\nitems 2\n\n"));
 }
 
 #[test]

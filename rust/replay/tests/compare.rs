@@ -5,7 +5,8 @@ use replay::engine::{Engine, EngineName};
 use replay::generate::{generate, Kind, Recipe};
 use replay::operation::Operation;
 use replay::reply::{AnswerLine, Reply};
-use replay::run::{run_engines, Difference, End};
+use replay::run::{difference, run_engines, Difference, End};
+use replay::shrink::shortest;
 
 /// The reference with one defect: it lets packets through that should be protected.
 struct Faulty(Box<dyn Engine>);
@@ -55,4 +56,40 @@ fn a_faulty_engine_is_found_where_it_errs() {
     // The comment line has no answer, and neither has the line that differs.
     assert_eq!(output.lines().count(), line_number - 2);
     assert!(!output.lines().any(|line| line == "= 12"));
+}
+
+/// Where a generated scenario shows a difference between the engines, says its shortest form.
+#[track_caller]
+fn engines_agree(kind: Kind, seed: u64, operations: usize) {
+    let mut text = Vec::new();
+    generate(&Recipe::new(kind, seed, operations), &mut text).unwrap();
+    let scenario = String::from_utf8(text).unwrap();
+    if let Some(found) = difference(&scenario) {
+        let shortest = shortest(&scenario, |text| difference(text).is_some());
+        panic!("{kind:?} {seed} {operations}: {found:?}; the shortest form:\n{shortest}");
+    }
+}
+
+#[test]
+fn the_proved_library_agrees_with_the_reference() {
+    for (_, kind) in Kind::NAMES {
+        engines_agree(kind, 1, 4_000);
+    }
+    for seed in 2..=6 {
+        engines_agree(Kind::All, seed, 20_000);
+    }
+}
+
+#[test]
+fn the_shortest_form_of_a_difference_is_short() {
+    let differs = |text: &str| {
+        let mut faulty = Faulty(EngineName::Reference.start());
+        matches!(compare(text, &mut faulty).0, End::Differs(_))
+    };
+    let shortest = shortest(&scenario(), differs);
+    assert!(differs(&shortest));
+    // A policy, and a packet that came in clear.
+    assert_eq!(shortest.lines().count(), 2, "{shortest}");
+    let (policy, packet) = shortest.split_once('\n').unwrap();
+    assert!(policy.starts_with("policy ") && packet.starts_with("in "), "{shortest}");
 }

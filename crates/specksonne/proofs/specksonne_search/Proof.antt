@@ -1,0 +1,42 @@
+-- `specksonne::specksonne_search` meets its contract: the answer in numbers. Assumes nothing.
+use mathlib.Core.Path.{refl}
+use borrow.Author.Needs.{needs}
+use Rattle.specksonne.proofs.specksonne_search.Statement.{statement}
+use Rattle.specksonne.proofs.specksonne_search.Tie as tie
+
+direction-from-requires : tie.Need-direction-from-requires
+direction-from-requires c κs = search needs
+
+selectors-from-requires : tie.Need-selectors-from-requires
+selectors-from-requires c κs = search needs
+
+search-requires : tie.Need-search-requires
+search-requires c κs = search needs
+
+action-number-requires : tie.Need-action-number-requires
+action-number-requires c κs = search needs
+
+action-kind-requires : tie.Need-action-kind-requires
+action-kind-requires c κs = search needs
+
+returns : tie.Need-returns
+returns c =
+    rw (
+      c .action-kind .ensures,
+      c .before .action-number .ensures,
+      c .before .before .search .ensures,
+      c .before .before .before .selectors-from .ensures,
+      c .before .before .before .before .direction-from .ensures,
+    )
+    (refl, refl)
+
+pub specksonne-search-spec : {M : Type 1} → statement M
+specksonne-search-spec =
+    tie.close
+    (tie.spec
+    direction-from-requires
+    selectors-from-requires
+    search-requires
+    action-number-requires
+    action-kind-requires
+    returns)

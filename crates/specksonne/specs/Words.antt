@@ -1,0 +1,139 @@
+-- How directions, values, pairs, caches and answers cross to C as words. Assumes nothing: these are definitions.
+use Prim.Native.Nat.{ℕ, _-_}
+use mathlib.Core.Bool.{Bool, true, false, cond}
+use mathlib.Core.List.{List, [], _∷_, _++_}
+use lib.Dec.{eqb}
+use lib.ListN.{length, getD, take, replicate}
+use Rattle.selectors.specs.Value.{number}
+use Rattle.selectors.specs.declared.Direction.{Direction}
+use Rattle.selectors.specs.declared.Direction.the-variants.{Out, In}
+use Rattle.selectors.specs.declared.Selectors.{Selectors}
+use Rattle.selectors.specs.declared.Value.{Value}
+use Rattle.packet.specs.declared.Reading.{Reading}
+use Rattle.packet.specs.declared.Reading.the-variants.{Readable, Unreadable}
+use Rattle.packet.specs.Read.{triggerOf}
+use Rattle.policy.specs.declared.Action.{Action}
+use Rattle.policy.specs.declared.Action.the-variants.{Discard, Bypass, Protect}
+use Rattle.policy.specs.declared.Found.{Found}
+use Rattle.policy.specs.declared.Found.the-variants.{Row, Nothing}
+use Rattle.policy_text.specs.declared.Parsed.{Parsed}
+use Rattle.policy_text.specs.declared.Parsed.the-variants.{Rows, NotHeader, NotEnded, TooMany, BadRow, NoRoom}
+use Rattle.policy_print.specs.declared.Printed.{Printed}
+use Rattle.policy_print.specs.declared.Printed.the-variants.{Bytes, NoRoom as NoBytes}
+use Rattle.sad.specs.declared.Ends.{Ends}
+use Rattle.sad.specs.declared.NewPair.{NewPair}
+use Rattle.spd_cache.specs.declared.Cache.{Cache}
+use Rattle.spd.specs.declared.Caches.{Caches}
+use Rattle.same_policy.specs.declared.Compared.{Compared}
+use Rattle.same_policy.specs.Same.{comparedCarries, comparedFile}
+
+-- 1 is out, and any other number in.
+abbrev pub directionFrom : ℕ → Direction
+directionFrom n = cond (eqb n 1) Out In
+
+-- A value is two words, the upper first; five selectors are ten.
+abbrev pub valueFrom : List ℕ → ℕ → ℕ → Value
+valueFrom ws upper lower = record { upper = getD ws upper 0; lower = getD ws lower 0 }
+
+unfoldable pub selectorsFrom : List ℕ → Selectors
+selectorsFrom ws =
+    record {
+      local = valueFrom ws 0 1;
+      remote = valueFrom ws 2 3;
+      protocol = valueFrom ws 4 5;
+      «local_port» = valueFrom ws 6 7;
+      «remote_port» = valueFrom ws 8 9;
+    }
+
+unfoldable pub selectorWords : Selectors → List ℕ
+selectorWords s =
+    s .local .upper ∷ s .local .lower ∷ s .remote .upper ∷ s .remote .lower ∷ s .protocol .upper ∷ s .protocol .lower
+    ∷ s .«local_port» .upper ∷ s .«local_port» .lower ∷ s .«remote_port» .upper ∷ s .«remote_port» .lower ∷ []
+
+-- A pair's five ranges are twenty words: for each field the low end and the high end.
+abbrev pub endsOf : ℕ → ℕ → ℕ → ℕ → Ends
+endsOf a b c d = record { low = record { upper = a; lower = b }; high = record { upper = c; lower = d } }
+
+abbrev pub endsFrom : List ℕ → ℕ → ℕ → ℕ → ℕ → Ends
+endsFrom ws a b c d = endsOf (getD ws a 0) (getD ws b 0) (getD ws c 0) (getD ws d 0)
+
+unfoldable pub pairFrom : ℕ → ℕ → ℕ → ℕ → List ℕ → NewPair
+pairFrom protocol spiIn spiOut n ws =
+    record {
+      protocol = protocol;
+      «spi_in» = spiIn;
+      «spi_out» = spiOut;
+      number = n;
+      local = endsFrom ws 0 1 2 3;
+      remote = endsFrom ws 4 5 6 7;
+      «ip_protocol» = endsFrom ws 8 9 10 11;
+      «local_port» = endsFrom ws 12 13 14 15;
+      «remote_port» = endsFrom ws 16 17 18 19;
+    }
+
+-- A cache is 706 words: those of the slots, the count of slots in use, the slot whose turn it is.
+abbrev pub slotsWords : ℕ
+slotsWords = 704
+
+unfoldable pub cacheFrom : List ℕ → Cache
+cacheFrom ws = record { words = take slotsWords ws; count = getD ws 704 0; next = getD ws 705 0 }
+
+unfoldable pub cacheWords : Cache → List ℕ
+cacheWords c = c .words ++ c .count ∷ c .next ∷ []
+
+abbrev pub cachesFrom : List ℕ → List ℕ → Caches
+cachesFrom out ins = record { outbound = cacheFrom out; inbound = cacheFrom ins }
+
+-- An action: 0 discard, 1 bypass, 2 protect, and the number N of protect-N.
+abbrev pub actionKind : Action → ℕ
+actionKind Discard = 0
+actionKind Bypass = 1
+actionKind (Protect n) = 2
+
+abbrev pub actionNumber : Action → ℕ
+actionNumber Discard = 0
+actionNumber Bypass = 0
+actionNumber (Protect n) = n
+
+-- Whether a row was found, and its place, the first being 0.
+abbrev pub isFound : Found → Bool
+isFound (Row i) = true
+isFound Nothing = false
+
+abbrev pub placeFound : Found → ℕ
+placeFound (Row i) = i
+placeFound Nothing = 0
+
+-- Whether a packet is readable, and its selectors, zeros where it is not.
+abbrev pub isReadable : Reading → Bool
+isReadable (Readable k) = true
+isReadable Unreadable = false
+
+abbrev pub readingWords : Reading → List ℕ
+readingWords (Readable k) = selectorWords (k .selectors)
+readingWords Unreadable = replicate 10 0
+
+-- Where the triggering header of a packet starts, and how long it is.
+abbrev pub triggerPart : ℕ → ℕ → List ℕ
+triggerPart end long = (end - long) ∷ long ∷ []
+
+abbrev pub triggerWords : List ℕ → Reading → List ℕ
+triggerWords p (Readable k) = triggerPart (k .end) (length (triggerOf p (k .upper) (k .end)))
+triggerWords p Unreadable = 0 ∷ 0 ∷ []
+
+-- What the answers to parsing and printing carry: the count of rows or of bytes, the number of the bad row.
+abbrev pub parsedCarries : Parsed → ℕ
+parsedCarries (Rows n) = n
+parsedCarries NotHeader = 0
+parsedCarries NotEnded = 0
+parsedCarries TooMany = 0
+parsedCarries (BadRow i) = i
+parsedCarries NoRoom = 0
+
+abbrev pub printedCarries : Printed → ℕ
+printedCarries (Bytes n) = n
+printedCarries NoBytes = 0
+
+-- What comparing two files carries: 1 for the same policy, 0 for another, or the number of a bad row; and, of a refusal, which file, 1 or 2.
+abbrev pub comparedWords : Compared → List ℕ
+comparedWords c = comparedCarries c ∷ comparedFile c ∷ []

@@ -1,0 +1,27 @@
+//! The policy gate of an IPsec gateway (RFC 4301, IPv4): for every packet it says pass in clear,
+//! protect, deliver or drop, and why. The work is done by a static library that is written in
+//! Rattle and proved; this crate wraps it in safe Rust.
+//!
+//! - [`Gateway`]: a gateway with its policy, SA pairs and caches, and the three packet calls.
+//! - [`Policy`], [`normalise`], [`same_policy`]: policy files, the ordered search, the normal form.
+//! - [`read`], [`triggering_header`]: what is seen in a packet.
+//! - [`Verdict`], [`Refusal`]: document 01's answers.
+//! - [`ffi`]: the library's functions over words, as C sees them.
+//!
+//! The library is built by `rt staticlib specksonne` in the repository's root.
+
+mod answer;
+pub mod ffi;
+mod gateway;
+mod pair;
+mod policy;
+mod selectors;
+
+pub use answer::{Refusal, Verdict};
+pub use gateway::Gateway;
+pub use pair::{Pair, Ranges, AH, ESP};
+pub use policy::{
+    normalise, normalise_into, same_policy, Action, Policy, Refused, MOST_NORMAL_FORM_BYTES,
+    MOST_ROWS,
+};
+pub use selectors::{read, triggering_header, Direction, Selectors};

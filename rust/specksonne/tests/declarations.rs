@@ -1,0 +1,148 @@
+//! The functions as they are written three times: exported by the proved crate, declared for C in
+//! the header, and declared for Rust in `ffi.rs`. Nothing else holds the three to each other.
+
+use std::collections::BTreeMap;
+use std::fs;
+use std::path::Path;
+
+/// What a function takes, one entry to a machine word, and what it returns.
+#[derive(Debug, PartialEq, Eq)]
+struct Signature {
+    parameters: Vec<String>,
+    result: String,
+}
+
+type Signatures = BTreeMap<String, Signature>;
+
+fn text(path: &str) -> String {
+    let root = Path::new(env!("CARGO_MANIFEST_DIR")).join("../..");
+    fs::read_to_string(root.join(path)).unwrap_or_else(|error| panic!("{path}: {error}"))
+}
+
+/// The text between the first `open` and the first `close` after it, and the rest.
+fn between<'a>(text: &'a str, open: &str, close: &str) -> Option<(&'a str, &'a str)> {
+    let (_, rest) = text.split_once(open)?;
+    rest.split_once(close)
+}
+
+/// Functions whose parameters are written `name: type`, each after `opening`; the result ends at
+/// one of the characters `end`.
+fn rust_like(
+    text: &str,
+    opening: &str,
+    end: &[char],
+    types: impl Fn(&str) -> Vec<String>,
+) -> Signatures {
+    let mut found = Signatures::new();
+    let mut rest = text;
+    while let Some((name, after)) = between(rest, opening, "(") {
+        let (parameters, after) = after.split_once(')').unwrap();
+        let result = after.split(end).next().unwrap().trim().trim_start_matches("-> ");
+        let parameters = parameters.split(',').filter_map(|parameter| parameter.split_once(':'));
+        let signature = Signature {
+            parameters: parameters.flat_map(|(_, kind)| types(kind.trim())).collect(),
+            result: result.to_string(),
+        };
+        found.insert(name.to_string(), signature);
+        rest = after;
+    }
+    found
+}
+
+/// A slice is a pointer and a count; an array is a pointer to that many.
+fn exported_type(kind: &str) -> Vec<String> {
+    let (access, of) = match kind.strip_prefix("&mut ") {
+        Some(of) => ("mut", of),
+        None => ("const", kind.strip_prefix('&').unwrap_or(kind)),
+    };
+    match of.strip_prefix('[').and_then(|of| of.strip_suffix(']')) {
+        Some(inner) => match inner.split_once("; ") {
+            Some((element, count)) => vec![format!("{access} {element} {count}")],
+            None => vec![format!("{access} {inner}"), "usize".to_string()],
+        },
+        None if kind.starts_with('&') => vec![format!("{access} {of}")],
+        None => vec![kind.to_string()],
+    }
+}
+
+fn rust_type(kind: &str) -> Vec<String> {
+    let kind = [
+        ("PolicyWords", "[u64; 11267]"),
+        ("Table", "[u64; 1536]"),
+        ("CacheWords", "[u64; 706]"),
+        ("SelectorWords", "[u64; 10]"),
+        ("RangeWords", "[u64; 20]"),
+    ]
+    .iter()
+    .fold(kind.to_string(), |kind, (name, array)| kind.replace(name, array));
+    match kind.strip_prefix('*') {
+        Some(pointer) => vec![pointer.to_string()],
+        None => exported_type(&kind),
+    }
+}
+
+/// The header's functions.
+fn c_signatures(header: &str) -> Signatures {
+    let number = |name: &str| {
+        let definition = format!("#define {name} ");
+        between(header, &definition, "\n").map_or(name.to_string(), |(value, _)| value.to_string())
+    };
+    let mut found = Signatures::new();
+    for statement in without_comments(header).split(';') {
+        let Some((name, parameters)) =
+            between(statement, " specksonne_", ")").and_then(|(call, _)| call.split_once('('))
+        else {
+            continue;
+        };
+        let result = statement.trim().split(' ').next().unwrap();
+        let signature = Signature {
+            parameters: parameters.split(',').map(|one| c_type(one.trim(), &number)).collect(),
+            result: c_name(result.rsplit('\n').next().unwrap()),
+        };
+        found.insert(format!("specksonne_{name}"), signature);
+    }
+    found
+}
+
+fn without_comments(header: &str) -> String {
+    let parts = header.split("/*").enumerate();
+    parts
+        .map(|(index, part)| if index == 0 { part } else { part.split_once("*/").unwrap().1 })
+        .collect()
+}
+
+fn c_type(parameter: &str, number: &dyn Fn(&str) -> String) -> String {
+    let (access, kind) = match parameter.strip_prefix("const ") {
+        Some(kind) => ("const", kind),
+        None => ("mut", parameter),
+    };
+    let element = c_name(kind.split(' ').next().unwrap());
+    match between(kind, "[", "]") {
+        Some((count, _)) => format!("{access} {element} {}", number(count)),
+        None if kind.contains('*') => format!("{access} {element}"),
+        None => element,
+    }
+}
+
+fn c_name(kind: &str) -> String {
+    let name = match kind {
+        "uint8_t" => "u8",
+        "uint32_t" => "u32",
+        "uint64_t" => "u64",
+        "size_t" => "usize",
+        "void" => "",
+        other => other,
+    };
+    name.to_string()
+}
+
+#[test]
+fn three_times_the_same_functions() {
+    let source = text("crates/specksonne/src/lib.rt");
+    let exported = rust_like(&source, "pub extern \"C\" fn ", &['\n', '{'], exported_type);
+    assert_eq!(exported.len(), 16);
+    let declared = text("rust/specksonne/src/ffi.rs");
+    let declared = rust_like(&declared, "        pub fn ", &[';'], rust_type);
+    assert_eq!(declared, exported);
+    assert_eq!(c_signatures(&text("c/specksonne.h")), exported);
+}
