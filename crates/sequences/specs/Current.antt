@@ -4,8 +4,6 @@ use Prim.Native.Nat.{ℕ, _+_, _%_}
 use mathlib.Core.Bool.{cond}
 use mathlib.Core.List.{List, [], _∷_, map}
 use mathlib.Core.Option.{Option, none, some}
-use lib.Dec.{leb}
-use lib.ListN.{length}
 use Rattle.selectors.specs.declared.Direction.{Direction}
 use Rattle.selectors.specs.declared.Direction.the-variants.{Out, In}
 use Rattle.packet.specs.Read.{readPacket}
@@ -18,7 +16,7 @@ use Rattle.layout.specs.NormalRows.{bothWays}
 use Rattle.decorrelate.specs.Form.{form}
 use Rattle.spd_cache.specs.Cache.{slotCount}
 use Rattle.spd_cache.specs.SlotLaws.{replaced}
-use Rattle.spd.specs.Spd.{formLimit, accepting}
+use Rattle.spd.specs.Spd.{formLimit, accepting, ifAccepted}
 use Rattle.sad.specs.declared.NewPair.{NewPair}
 use Rattle.sad.specs.declared.Outcome.{Outcome}
 use Rattle.sad.specs.declared.Outcome.the-variants.{Done, ReservedSpi, AlreadyLive, TableFull, BadPair, NothingToRemove}
@@ -26,10 +24,10 @@ use Rattle.sad.specs.Pairs.{Pair, named, addOutcome, removeOutcome, newPair}
 use Rattle.gateway.specs.Calls.{shows, forGateway, outboundBy, inboundBy, fromSaBy}
 use Rattle.sequences.specs.Sequence.{Call, policy, add, remove, outbound, inbound, fromSa, Answer, forPolicy, forPair, forPacket}
 
--- The rows of a file that is accepted: one that 23, 24, 21 and 20 let through, and whose normal forms are within the limit.
+-- The rows of a file that is accepted: one that 23, 24, 21, 20 and 22 let through.
 abbrev pub acceptedRows : Policy → Option (List PolicyRow)
 acceptedRows (refused p) = none
-acceptedRows (rows rs) = cond (leb (length (form Out rs)) formLimit) (cond (leb (length (form In rs)) formLimit) (some rs) none) none
+acceptedRows (rows rs) = ifAccepted (accepting formLimit (rows rs)) (some rs) none
 
 abbrev pub accepts : Call → Option (List PolicyRow)
 accepts (policy s) = acceptedRows (parsePolicy formLimit s)

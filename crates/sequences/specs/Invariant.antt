@@ -6,9 +6,7 @@ use mathlib.Core.Bool.{Bool, true, false, cond}
 use mathlib.Core.List.{List, [], _∷_, map, List·Memᴰ, List·Memᴰ·head, List·Memᴰ·tail, List·Memᴰ·cases-cons, List·Memᴰ·not-nil}
 use mathlib.Core.Logic.{_⊎_, inl, inr, ⊎-elim}
 use mathlib.Core.Option.{Option, none, some}
-use lib.Dec.{leb}
 use lib.ListN.{length, length-replicate}
-use borrow.Author.Tests.{leb-true}
 use Rattle.selectors.specs.declared.Direction.{Direction}
 use Rattle.selectors.specs.declared.Direction.the-variants.{Out, In}
 use Rattle.packet.specs.Read.{readPacket}
@@ -18,16 +16,18 @@ use Rattle.policy.specs.Policy.{PolicyRow}
 use Rattle.policy.specs.Words.{policyRows}
 use Rattle.policy_text.specs.Format.{Policy, refused, rows, parsePolicy}
 use Rattle.policy_text.specs.declared.Parsed.{Parsed}
-use Rattle.policy_text.specs.declared.Parsed.the-variants.{Rows, NotHeader, NotEnded, TooMany, BadRow, NoRoom}
+use Rattle.policy_text.specs.declared.Parsed.the-variants.{Rows, NotHeader as NoHeader, NotEnded as NoEnd, TooMany as OverRows, BadRow as Bad, NoRoom}
 use Rattle.layout.specs.NormalRows.{bothWays}
 use Rattle.decorrelate.specs.Form.{form}
 use Rattle.decorrelate.specs.FormLaws.{form-words-rows}
 use Rattle.spd_cache.specs.declared.Cache.{Cache}
 use Rattle.spd_cache.specs.Cache.{cached, emptyCache, lookedUp}
 use Rattle.spd_cache.specs.SlotLaws.{Filled, empty-filled, empty-cached, lookup-filled, lookup-mem}
+use Rattle.spd.specs.declared.Acceptance.{Acceptance}
+use Rattle.spd.specs.declared.Acceptance.the-variants.{Accepted, NotHeader, NotEnded, TooMany, BadRow, TooLarge}
 use Rattle.spd.specs.declared.Caches.{Caches}
-use Rattle.spd.specs.Spd.{formLimit, spdWords, addressOf, rowsOf, spdAfter, emptyCaches, cachesAfter}
-use Rattle.spd.specs.SpdLaws.{Within, empty-within, spd-rows}
+use Rattle.spd.specs.Spd.{formLimit, spdWords, addressOf, rowsOf, spdAfter, emptyCaches, cachesAfter, accepting, ifAccepted}
+use Rattle.spd.specs.SpdLaws.{Within, empty-within, accepted-exactly, spd-rows}
 use Rattle.sad.specs.Pairs.{placeCount, placeWords}
 use Rattle.sad.specs.TableLaws.{size-after-add, size-after-remove}
 use Rattle.gateway.specs.Calls.{shows, forGateway}
@@ -53,48 +53,46 @@ abbrev cachesOr : Caches → Option (List PolicyRow) → Caches
 cachesOr c none = c
 cachesOr c (some rs) = emptyCaches
 
+-- What is taken where a policy is accepted, by whether rows are.
+if-accepted : {A : Type 0} (new old : A) (take : Option (List PolicyRow) → A) (rs : List PolicyRow) → take (some rs) ≡ new → take none ≡ old
+    → (a : Acceptance) → ifAccepted a new old ≡ take (ifAccepted a (some rs) none)
+if-accepted new old take rs p q Accepted = sym p
+if-accepted new old take rs p q NotHeader = sym q
+if-accepted new old take rs p q NotEnded = sym q
+if-accepted new old take rs p q TooMany = sym q
+if-accepted new old take rs p q (BadRow i) = sym q
+if-accepted new old take rs p q (TooLarge d) = sym q
+
 spd-settled : (ws : List ℕ) (f : Policy) → spdAfter formLimit ws f ≡ spdOr ws (acceptedRows f)
 spd-settled ws (refused p) = refl
-spd-settled ws (rows rs) = by (leb (length (form Out rs)) formLimit) refl (leb (length (form In rs)) formLimit) refl
-  where
-    by : (a : Bool) → leb (length (form Out rs)) formLimit ≡ a → (b : Bool) → leb (length (form In rs)) formLimit ≡ b
-        → spdAfter formLimit ws (rows rs) ≡ spdOr ws (acceptedRows (rows rs))
-    by true e true f = rw (e, f)
-    by true e false f = rw (e, f)
-    by false e b f = rw e
+spd-settled ws (rows rs) = if-accepted (spdWords (addressOf ws) rs) ws (spdOr ws) rs refl refl (accepting formLimit (rows rs))
 
 caches-settled : (c : Caches) (f : Policy) → cachesAfter formLimit c f ≡ cachesOr c (acceptedRows f)
 caches-settled c (refused p) = kept p
   where
     kept : (p : Parsed) → cachesAfter formLimit c (refused p) ≡ c
     kept (Rows n) = refl
-    kept NotHeader = refl
-    kept NotEnded = refl
-    kept TooMany = refl
-    kept (BadRow i) = refl
+    kept NoHeader = refl
+    kept NoEnd = refl
+    kept OverRows = refl
+    kept (Bad i) = refl
     kept NoRoom = refl
-caches-settled c (rows rs) = by (leb (length (form Out rs)) formLimit) refl (leb (length (form In rs)) formLimit) refl
-  where
-    by : (a : Bool) → leb (length (form Out rs)) formLimit ≡ a → (b : Bool) → leb (length (form In rs)) formLimit ≡ b
-        → cachesAfter formLimit c (rows rs) ≡ cachesOr c (acceptedRows (rows rs))
-    by true e true f = rw (e, f)
-    by true e false f = rw (e, f)
-    by false e b f = rw e
+caches-settled c (rows rs) = if-accepted emptyCaches c (cachesOr c) rs refl refl (accepting formLimit (rows rs))
 
 none≢some : (rs : List PolicyRow) → _≡_ {A = Option (List PolicyRow)} none (some rs) → ⊥
 none≢some rs e = let z : _≡_ {A = ℕ} 0 1 = cc in omega arith
 
-both-within : (rs : List PolicyRow) → leb (length (form Out rs)) formLimit ≡ true → leb (length (form In rs)) formLimit ≡ true → Within rs
-both-within rs g h = record { out-within = leb-true _ _ g; in-within = leb-true _ _ h }
-
 accepted-within : (f : Policy) (rs : List PolicyRow) → acceptedRows f ≡ some rs → Within rs
 accepted-within (refused p) rs e = absurd (none≢some rs e)
-accepted-within (rows qs) rs e = by (leb (length (form Out qs)) formLimit) refl (leb (length (form In qs)) formLimit) refl
+accepted-within (rows qs) rs e = by (accepting formLimit (rows qs)) refl e
   where
-    by : (a : Bool) → leb (length (form Out qs)) formLimit ≡ a → (b : Bool) → leb (length (form In qs)) formLimit ≡ b → Within rs
-    by true g true h = let same : qs ≡ rs = cc (rw (g, h) at e) in subst Within same (both-within qs g h)
-    by true g false h = absurd (none≢some rs (rw (g, h) at e))
-    by false g b h = absurd (none≢some rs (rw g at e))
+    by : (a : Acceptance) → accepting formLimit (rows qs) ≡ a → ifAccepted a (some qs) none ≡ some rs → Within rs
+    by Accepted g h = let same : qs ≡ rs = cc in subst Within same (accepted-exactly qs .0 g)
+    by NotHeader g h = absurd (none≢some rs h)
+    by NotEnded g h = absurd (none≢some rs h)
+    by TooMany g h = absurd (none≢some rs h)
+    by (BadRow i) g h = absurd (none≢some rs h)
+    by (TooLarge d) g h = absurd (none≢some rs h)
 
 -- The cache of a direction, when a policy with these rows is current: its slots are filled from the first on, and each row that it holds
 -- is one of the normal form's.

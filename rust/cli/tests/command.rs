@@ -1,29 +1,15 @@
 //! The command as it is called.
 
-use std::io::Write;
 use std::path::{Path, PathBuf};
-use std::process::{Command, Output, Stdio};
-use testkit::{address, ports, Ipv4};
+use std::process::Output;
+use testkit::{address, ports, run, Ipv4};
 
 const WORKED_EXAMPLE: &str = "policy\t1\n\
     out\tprotect-7\t10.1.0.0/255.255.255.0\t10.0.0.0-10.0.0.9\t6\tany\t22\n\
     both\tbypass\tany\tany\t17\t500\t500\n";
 
 fn specksonne(arguments: &[&str], input: &[u8]) -> Output {
-    let mut child = Command::new(env!("CARGO_BIN_EXE_specksonne"))
-        .args(arguments)
-        .stdin(Stdio::piped())
-        .stdout(Stdio::piped())
-        .stderr(Stdio::piped())
-        .spawn()
-        .unwrap();
-    let mut stdin = child.stdin.take().unwrap();
-    let input = input.to_vec();
-    // Beside the reading; a program that stops at its arguments does not read its input.
-    let writing = std::thread::spawn(move || drop(stdin.write_all(&input)));
-    let output = child.wait_with_output().unwrap();
-    writing.join().unwrap();
-    output
+    run(env!("CARGO_BIN_EXE_specksonne"), arguments, input)
 }
 
 #[track_caller]

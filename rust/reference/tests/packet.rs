@@ -1,9 +1,7 @@
 //! The packet reader: made-up packets at every edge, and packets from real captures.
 
 use reference::{absent_or, Direction, Packet, Requests, Selectors};
-use std::path::Path;
-use std::process::Command;
-use testkit::{icmp_error, ports, Ipv4, MORE_FRAGMENTS};
+use testkit::{captured_packets, icmp_error, ports, Ipv4, MORE_FRAGMENTS};
 
 fn read(bytes: &[u8], direction: Direction) -> Option<Selectors> {
     Packet::read(bytes).map(|packet| packet.selectors(direction, Requests::NONE))
@@ -140,21 +138,13 @@ fn triggering_headers_may_be_cut_after_their_header() {
 /// Every packet of the captures, where their folder stands beside the repository.
 #[test]
 fn packets_from_captures() {
-    let file =
-        Path::new(env!("CARGO_MANIFEST_DIR")).join("../../../shared/captures/packets.tsv.gz");
-    if !file.exists() {
-        println!("left out: {} is not there", file.display());
+    let Some(text) = captured_packets() else {
         return;
-    }
-    let unpacked = Command::new("gzip").arg("-dc").arg(&file).output().expect("gzip runs");
-    assert!(unpacked.status.success(), "gzip could not unpack {}", file.display());
-    let text = String::from_utf8(unpacked.stdout).unwrap();
+    };
     for (number, line) in text.lines().enumerate() {
         let (packet, expected) = line.split_once('\t').unwrap();
         assert_eq!(shown(&from_hex(packet)), expected, "line {}", number + 1);
     }
-    let count = text.lines().count();
-    assert!(count > 1000, "only {count} packets");
 }
 
 /// What the reader sees going out, as the captures' list writes it.

@@ -4,8 +4,7 @@ use replay::operation::to_hex;
 use replay::run::difference;
 use replay::shrink::shortest;
 use std::fmt::Write;
-use std::path::Path;
-use std::process::Command;
+use testkit::captured_packets;
 
 /// Rows that treat the captures' packets in several ways.
 const POLICY: &str = "policy\t1\n\
@@ -19,16 +18,9 @@ const POLICY: &str = "policy\t1\n\
 /// Every packet of the captures, where their folder stands beside the repository.
 #[test]
 fn the_engines_agree_on_packets_from_captures() {
-    let folder = Path::new(env!("CARGO_MANIFEST_DIR")).join("../../../shared/captures");
-    let list = folder.join("packets.tsv.gz");
-    if !list.exists() {
-        println!("left out: {} is not there", list.display());
+    let Some(packets) = captured_packets() else {
         return;
-    }
-    let unpacked = Command::new("gzip").arg("-dc").arg(&list).output().expect("gzip runs");
-    assert!(unpacked.status.success(), "gzip could not unpack {}", list.display());
-    let packets = String::from_utf8(unpacked.stdout).unwrap();
-    assert!(packets.lines().count() > 1000);
+    };
     let scenario = scenario(&packets);
     if let Some(found) = difference(&scenario) {
         let shortest = shortest(&scenario, |text| difference(text).is_some());

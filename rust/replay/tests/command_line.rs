@@ -1,24 +1,10 @@
 //! The program as it is called.
 
-use std::io::Write;
-use std::process::{Command, Output, Stdio};
+use std::process::Output;
+use testkit::run;
 
 fn replay(arguments: &[&str], input: &str) -> Output {
-    let mut child = Command::new(env!("CARGO_BIN_EXE_replay"))
-        .args(arguments)
-        .stdin(Stdio::piped())
-        .stdout(Stdio::piped())
-        .stderr(Stdio::piped())
-        .spawn()
-        .unwrap();
-    let mut stdin = child.stdin.take().unwrap();
-    let input = input.to_string();
-    // Beside the reading, as both pipes may fill. A program that stops at its arguments does not
-    // read its input, so writing may fail.
-    let writing = std::thread::spawn(move || drop(stdin.write_all(input.as_bytes())));
-    let output = child.wait_with_output().unwrap();
-    writing.join().unwrap();
-    output
+    run(env!("CARGO_BIN_EXE_replay"), arguments, input.as_bytes())
 }
 
 fn text(bytes: &[u8]) -> &str {

@@ -5,9 +5,7 @@ use specksonne::{
     Policy, Ranges, Refusal, Selectors, Verdict, AH, ESP, MOST_NORMAL_FORM_BYTES,
 };
 use std::net::Ipv4Addr;
-use std::path::Path;
-use std::process::Command;
-use testkit::{address, icmp_error, ports, Ipv4};
+use testkit::{address, captured_packets, icmp_error, ports, Ipv4};
 
 const GATEWAY: Ipv4Addr = Ipv4Addr::new(192, 0, 2, 1);
 
@@ -180,19 +178,13 @@ fn every_call_fits_in_a_mebibyte_of_stack() {
 /// Every packet of the captures, where their folder stands beside the repository.
 #[test]
 fn packets_from_captures() {
-    let folder = Path::new(env!("CARGO_MANIFEST_DIR")).join("../../../shared/captures");
-    let list = folder.join("packets.tsv.gz");
-    if !list.exists() {
-        println!("left out: {} is not there", list.display());
+    let Some(text) = captured_packets() else {
         return;
-    }
-    let unpacked = Command::new("gzip").arg("-dc").arg(&list).output().expect("gzip runs");
-    let text = String::from_utf8(unpacked.stdout).unwrap();
+    };
     for (number, line) in text.lines().enumerate() {
         let (packet, expected) = line.split_once('\t').unwrap();
         assert_eq!(shown(&from_hex(packet)), expected, "line {}", number + 1);
     }
-    assert!(text.lines().count() > 1000);
 }
 
 /// What the reader sees going out, as the captures' list writes it.

@@ -1,13 +1,17 @@
-//! What the scenario generator and the tests share: random numbers that a seed fixes, and a
-//! builder of IPv4 packets. Nothing here reads packets or policies.
+//! What the scenario generator and the tests share: random numbers that a seed fixes, a builder of
+//! IPv4 packets, captured packets, and running a program. Nothing here reads packets or policies.
 
 #![forbid(unsafe_code)]
 
+mod captures;
 mod ipv4;
 mod prng;
+mod program;
 
+pub use captures::captured_packets;
 pub use ipv4::{icmp_error, ports, Ipv4, MORE_FRAGMENTS};
 pub use prng::Prng;
+pub use program::run;
 
 /// The number of the address a.b.c.d.
 pub const fn address(a: u8, b: u8, c: u8, d: u8) -> u32 {
