@@ -19,8 +19,8 @@ use Rattle.packet.specs.declared.Reading.the-variants.{Readable}
 use Rattle.sad.specs.Pairs.{Pair, pairs, live, fitting, pairFor, outcomeNumber, addOutcome, removeOutcome}
 use Rattle.sad.specs.declared.NewPair.{NewPair}
 use Rattle.sad.specs.declared.PairFound.the-variants.{Found, Nothing}
-use Rattle.gateway.specs.Calls.{shows, spiOf, outboundBy, inboundBy, fromSaBy}
-use Rattle.gateway.specs.Verdict.{verdictNumber, carried}
+use Rattle.verdicts.specs.Calls.{shows, spiOf, outboundBy, inboundBy, fromSaBy}
+use Rattle.verdicts.specs.Verdict.{verdictNumber, carried}
 use Rattle.policy_text.specs.declared.Parsed.the-variants.{NotHeader, NotEnded, TooMany, BadRow}
 use Rattle.policy_text.specs.Format.{refused, rows, parsePolicy}
 use Rattle.decorrelate.specs.Form.{form, directionNumber}

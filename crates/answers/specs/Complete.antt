@@ -10,10 +10,10 @@ use Rattle.sad.specs.Pairs.{Pair, pairs, outcomeNumber, addOutcome, removeOutco
 use Rattle.sad.specs.declared.NewPair.{NewPair}
 use Rattle.sad.specs.declared.Outcome.{Outcome}
 use Rattle.sad.specs.declared.Outcome.the-variants.{Done, ReservedSpi, AlreadyLive, TableFull, BadPair, NothingToRemove}
-use Rattle.gateway.specs.Calls.{outboundBy, inboundBy, fromSaBy}
-use Rattle.gateway.specs.Verdict.{verdictNumber, carried}
-use Rattle.gateway.specs.declared.Verdict.{Verdict}
-use Rattle.gateway.specs.declared.Verdict.the-variants.{Pass, Deliver, Protect, Wanted, ToIpsec, NotReadable, Discarded, CameInClear, NoSuchPair, DoesNotFit, IpsecFragment, IpsecTooShort, TriggerUnreadable, TriggerDoesNotFit}
+use Rattle.verdicts.specs.Calls.{outboundBy, inboundBy, fromSaBy}
+use Rattle.verdicts.specs.Verdict.{verdictNumber, carried}
+use Rattle.verdicts.specs.declared.Verdict.{Verdict}
+use Rattle.verdicts.specs.declared.Verdict.the-variants.{Pass, Deliver, Protect, Wanted, ToIpsec, NotReadable, Discarded, CameInClear, NoSuchPair, DoesNotFit, IpsecFragment, IpsecTooShort, TriggerUnreadable, TriggerDoesNotFit}
 use Rattle.normaliser.specs.Normalise.{normalisedNumber, normalisedCarries}
 use Rattle.normaliser.specs.declared.Normalised.{Normalised}
 use Rattle.normaliser.specs.declared.Normalised.the-variants.{Printed, NotHeader, NotEnded, TooMany, BadRow, TooLarge, NoRoom}

@@ -8,9 +8,9 @@ use lib.Dec.{eqb}
 use lib.ListN.{getD}
 use Rattle.selectors.specs.declared.Direction.{Direction}
 use Rattle.selectors.specs.declared.Direction.the-variants.{Out, In}
-use Rattle.gateway.specs.Verdict.{verdictNumber, carried}
-use Rattle.gateway.specs.declared.Verdict.{Verdict}
-use Rattle.gateway.specs.declared.Verdict.the-variants.{Pass, Deliver, Protect, Wanted, ToIpsec, NotReadable, Discarded, CameInClear, NoSuchPair, DoesNotFit, IpsecFragment, IpsecTooShort, TriggerUnreadable, TriggerDoesNotFit}
+use Rattle.verdicts.specs.Verdict.{verdictNumber, carried}
+use Rattle.verdicts.specs.declared.Verdict.{Verdict}
+use Rattle.verdicts.specs.declared.Verdict.the-variants.{Pass, Deliver, Protect, Wanted, ToIpsec, NotReadable, Discarded, CameInClear, NoSuchPair, DoesNotFit, IpsecFragment, IpsecTooShort, TriggerUnreadable, TriggerDoesNotFit}
 use Rattle.sad.specs.Pairs.{outcomeNumber}
 use Rattle.sad.specs.declared.Outcome.{Outcome}
 use Rattle.sad.specs.declared.Outcome.the-variants.{Done, ReservedSpi, AlreadyLive, TableFull, BadPair, NothingToRemove}

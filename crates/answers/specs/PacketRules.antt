@@ -15,9 +15,9 @@ use Rattle.packet.specs.declared.Reading.the-variants.{Readable, Unreadable}
 use Rattle.sad.specs.Pairs.{Pair, live, fitting, pairFor}
 use Rattle.sad.specs.declared.PairFound.{PairFound}
 use Rattle.sad.specs.declared.PairFound.the-variants.{Found, Nothing}
-use Rattle.gateway.specs.Calls.{shows, protected, outboundAction, outboundRead, outboundBy, esp, spiOf, toIpsec, inboundAction, inboundRead, inboundBy, triggerRead, fromSaRead, fromSaBy}
-use Rattle.gateway.specs.declared.Verdict.{Verdict}
-use Rattle.gateway.specs.declared.Verdict.the-variants.{Pass, Deliver, Protect, Wanted, ToIpsec, NotReadable, Discarded, CameInClear, NoSuchPair, DoesNotFit, IpsecFragment, IpsecTooShort, TriggerUnreadable, TriggerDoesNotFit}
+use Rattle.verdicts.specs.Calls.{shows, protected, outboundAction, outboundRead, outboundBy, esp, spiOf, toIpsec, inboundAction, inboundRead, inboundBy, triggerRead, fromSaRead, fromSaBy}
+use Rattle.verdicts.specs.declared.Verdict.{Verdict}
+use Rattle.verdicts.specs.declared.Verdict.the-variants.{Pass, Deliver, Protect, Wanted, ToIpsec, NotReadable, Discarded, CameInClear, NoSuchPair, DoesNotFit, IpsecFragment, IpsecTooShort, TriggerUnreadable, TriggerDoesNotFit}
 use Rattle.answers.specs.Decides.{Decides, holding, failing, is-true, is-false}
 use Rattle.answers.specs.Terms.{ReadablePacket, ReadableHeader, protocolOf, typeAndCode, ForGateway, Fragment, TooShort, upperBytes, IcmpError, returned}
 use Rattle.answers.specs.Exactly.{Ruled}

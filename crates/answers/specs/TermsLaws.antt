@@ -13,7 +13,7 @@ use Rattle.packet.specs.Header.{version, headerField, totalLength}
 use Rattle.packet.specs.Read.{headerGood, readable, triggerReadable, readPacket, readTrigger, errorType, icmpError}
 use Rattle.packet.specs.declared.Packet.{Packet}
 use Rattle.packet.specs.declared.Reading.the-variants.{Readable, Unreadable}
-use Rattle.gateway.specs.Calls.{esp, forGateway, fragment}
+use Rattle.verdicts.specs.Calls.{esp, forGateway, fragment}
 use Rattle.answers.specs.Decides.{Decides, holding, failing, decides-iff, decides-not, decides-and, decides-or, decides-le, decides-lt, decides-eq, decides-flag}
 use Rattle.answers.specs.Terms.{ReadablePacket, ReadableHeader, protocolOf, typeAndCode, ForGateway, Fragment, TooShort, upperBytes, ErrorType, IcmpError}
 

@@ -25,9 +25,9 @@ use Rattle.sad.specs.Pairs.{Pair, pairs, pairAt, pairsFrom, liveAt, live, named
 use Rattle.sad.specs.TableLaws.{refused-kept}
 use Rattle.sad.specs.declared.NewPair.{NewPair}
 use Rattle.sad.specs.declared.Outcome.the-variants.{Done, NothingToRemove}
-use Rattle.gateway.specs.Calls.{shows, forGateway, toIpsec, inboundAction, inboundRead, inboundBy}
+use Rattle.verdicts.specs.Calls.{shows, forGateway, toIpsec, inboundAction, inboundRead, inboundBy}
 use Rattle.gateway.specs.Cached.{cachedSearch, outboundCached, inboundCache, inboundCached}
-use Rattle.gateway.specs.Verdict.{verdictNumber}
+use Rattle.verdicts.specs.Verdict.{verdictNumber}
 use Rattle.policy_text.specs.Format.{Policy, refused, rows}
 use Rattle.normaliser.specs.Normalise.{normalised, bytesAfter, normalisedBytes, normalisedNumber}
 use Rattle.normaliser.specs.declared.Normalised.{Normalised}

@@ -12,7 +12,7 @@ use Rattle.spd_cache.specs.Cache.{lookedUp}
 use Rattle.spd_cache.specs.declared.Cache.{Cache}
 use Rattle.sad.specs.Pairs.{Pair}
 use Rattle.gateway.specs.declared.Answered.{Answered}
-use Rattle.gateway.specs.Calls.{shows, forGateway, outboundBy, inboundBy}
+use Rattle.verdicts.specs.Calls.{shows, forGateway, outboundBy, inboundBy}
 
 -- The search that a cache and rows make.
 abbrev pub cachedSearch : Cache → List ℕ → Direction → List ℕ → Action

@@ -1,3 +1,1 @@
-pub mod Verdict
-pub mod Calls
 pub mod Cached

@@ -1,6 +1,6 @@
 // The line of an answer: document 01's number, and what the answer carries.
 ghost use mathlib.Core.Path.{_≡_};
-ghost use Rattle.gateway.specs.Verdict.{verdictNumber};
+ghost use Rattle.verdicts.specs.Verdict.{verdictNumber};
 ghost use Rattle.sad.specs.Pairs.{outcomeNumber};
 ghost use Rattle.spd.specs.Spd.{acceptanceNumber};
 use gateway::Verdict;

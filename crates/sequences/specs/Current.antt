@@ -21,7 +21,7 @@ use Rattle.sad.specs.declared.NewPair.{NewPair}
 use Rattle.sad.specs.declared.Outcome.{Outcome}
 use Rattle.sad.specs.declared.Outcome.the-variants.{Done, ReservedSpi, AlreadyLive, TableFull, BadPair, NothingToRemove}
 use Rattle.sad.specs.Pairs.{Pair, named, addOutcome, removeOutcome, newPair}
-use Rattle.gateway.specs.Calls.{shows, forGateway, outboundBy, inboundBy, fromSaBy}
+use Rattle.verdicts.specs.Calls.{shows, forGateway, outboundBy, inboundBy, fromSaBy}
 use Rattle.sequences.specs.Sequence.{Call, policy, add, remove, outbound, inbound, fromSa, Answer, forPolicy, forPair, forPacket}
 
 -- The rows of a file that is accepted: one that 23, 24, 21, 20 and 22 let through.

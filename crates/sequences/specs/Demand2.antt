@@ -21,9 +21,9 @@ use Rattle.spd_cache.specs.Cache.{lookedUp}
 use Rattle.spd.specs.Spd.{rowsOf}
 use Rattle.sad.specs.declared.PairFound.the-variants.{Found, Nothing}
 use Rattle.sad.specs.Pairs.{pairs, live, fitting, pairFor}
-use Rattle.gateway.specs.Calls.{shows, outboundBy, inboundBy, fromSaBy}
-use Rattle.gateway.specs.Verdict.{verdictNumber, carried}
-use Rattle.gateway.specs.declared.Verdict.{Verdict}
+use Rattle.verdicts.specs.Calls.{shows, outboundBy, inboundBy, fromSaBy}
+use Rattle.verdicts.specs.Verdict.{verdictNumber, carried}
+use Rattle.verdicts.specs.declared.Verdict.{Verdict}
 use Rattle.answers.specs.Terms.{ForGateway, IcmpError, returned}
 use Rattle.answers.specs.Answers.{out-0, in-0, sa-1, out-2, out-3}
 use Rattle.sequences.specs.Sequence.{Call, goesOut, comesIn}

@@ -30,7 +30,7 @@ use Rattle.spd.specs.Spd.{formLimit, spdWords, addressOf, rowsOf, spdAfter, emp
 use Rattle.spd.specs.SpdLaws.{Within, empty-within, accepted-exactly, spd-rows}
 use Rattle.sad.specs.Pairs.{placeCount, placeWords}
 use Rattle.sad.specs.TableLaws.{size-after-add, size-after-remove}
-use Rattle.gateway.specs.Calls.{shows, forGateway}
+use Rattle.verdicts.specs.Calls.{shows, forGateway}
 use Rattle.gateway.specs.Cached.{outboundCache, outboundCached, inboundCache, inboundCached}
 use Rattle.sequences.specs.Sequence.{Gateway, Call, policy, add, remove, outbound, inbound, fromSa, fresh, after, run}
 use Rattle.sequences.specs.Current.{acceptedRows, accepts, instead, searched, shownOut, shownIn, currentFrom, current}

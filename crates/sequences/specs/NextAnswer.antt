@@ -27,9 +27,9 @@ use Rattle.spd_cache.specs.SlotLaws.{lookup-action}
 use Rattle.spd.specs.Spd.{addressOf, rowsOf}
 use Rattle.spd.specs.SpdLaws.{spd-search}
 use Rattle.sad.specs.Pairs.{Pair, pairs, live}
-use Rattle.gateway.specs.declared.Verdict.{Verdict}
-use Rattle.gateway.specs.declared.Verdict.the-variants.{NoSuchPair}
-use Rattle.gateway.specs.Calls.{shows, outboundAction, outboundRead, outboundBy, spiOf, toIpsec, inboundRead, inboundBy, triggerRead, fromSaRead, fromSaBy}
+use Rattle.verdicts.specs.declared.Verdict.{Verdict}
+use Rattle.verdicts.specs.declared.Verdict.the-variants.{NoSuchPair}
+use Rattle.verdicts.specs.Calls.{shows, outboundAction, outboundRead, outboundBy, spiOf, toIpsec, inboundRead, inboundBy, triggerRead, fromSaRead, fromSaBy}
 use Rattle.gateway.specs.Cached.{outboundCached, inboundCached}
 use Rattle.sequences.specs.Sequence.{Gateway, Call, policy, add, remove, outbound, inbound, fromSa, fresh, run, goesOut, comesIn, forPair, forPacket, answered}
 use Rattle.sequences.specs.Current.{current, livePairs, ruled, OfBytes}

@@ -13,10 +13,10 @@ use Rattle.sad.specs.declared.NewPair.{NewPair}
 use Rattle.sad.specs.declared.Outcome.{Outcome}
 use Rattle.sad.specs.Pairs.{placeCount, placeWords, pairs, addOutcome, added, removeOutcome, removed, outcomeNumber}
 use Rattle.gateway.specs.declared.Answered.{Answered}
-use Rattle.gateway.specs.declared.Verdict.{Verdict}
-use Rattle.gateway.specs.Calls.{fromSaBy}
+use Rattle.verdicts.specs.declared.Verdict.{Verdict}
+use Rattle.verdicts.specs.Calls.{fromSaBy}
 use Rattle.gateway.specs.Cached.{outboundCached, inboundCached}
-use Rattle.gateway.specs.Verdict.{verdictNumber}
+use Rattle.verdicts.specs.Verdict.{verdictNumber}
 
 -- What a gateway is: the words of its policy and of its pairs, and its caches.
 pub record Gateway : Type 0 where

@@ -15,9 +15,9 @@ ghost use Rattle.same_policy.specs.Same.{compared, comparedNumber, refusedCarri
 ghost use Rattle.spd.specs.Spd.{spdWords, addressOf, rowsOf, accepting, spdAfter, cachesAfter, acceptanceNumber, acceptanceCarries};
 ghost use Rattle.sad.specs.Pairs.{pairs, live, addOutcome, added, removeOutcome, removed, outcomeNumber};
 ghost use Rattle.spd_cache.specs.Cache.{emptyCache};
-ghost use Rattle.gateway.specs.Calls.{fromSaBy};
+ghost use Rattle.verdicts.specs.Calls.{fromSaBy};
 ghost use Rattle.gateway.specs.Cached.{outboundCached, inboundCached};
-ghost use Rattle.gateway.specs.Verdict.{verdictNumber, carried};
+ghost use Rattle.verdicts.specs.Verdict.{verdictNumber, carried};
 ghost use Rattle.specksonne.specs.Words.{directionFrom, endsOf, selectorsFrom, selectorWords, pairFrom, cacheFrom, cacheWords, cachesFrom, actionKind, actionNumber, isFound, placeFound, isReadable, readingWords, triggerPart, triggerWords, parsedCarries, printedCarries, comparedWords};
 use gateway::Verdict;
 use normaliser::Normalised;

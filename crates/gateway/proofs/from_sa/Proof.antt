@@ -7,7 +7,7 @@ use Rattle.selectors.specs.declared.Direction.the-variants.{In}
 use Rattle.packet.specs.Read.{readPacket}
 use Rattle.packet.specs.declared.Reading.the-variants.{Readable}
 use Rattle.sad.specs.Pairs.{pairs, live, fitting}
-use Rattle.gateway.specs.Calls.{shows, fromSaBy}
+use Rattle.verdicts.specs.Calls.{shows, fromSaBy}
 use borrow.Author.Needs.{needs}
 use Rattle.gateway.proofs.from_sa.Statement.{statement}
 use Rattle.gateway.proofs.from_sa.Tie as tie

@@ -4,7 +4,8 @@ use denote.Ref.{now}
 use Rattle.selectors.specs.declared.Direction.the-variants.{In}
 use Rattle.packet.specs.Read.{readPacket}
 use Rattle.packet.specs.declared.Reading.the-variants.{Readable}
-use Rattle.gateway.specs.Calls.{inboundBy}
+use Rattle.verdicts.specs.Calls.{inboundBy}
+use Rattle.own_ipsec.specs.OwnLaws.{own-answered, not-own}
 use Rattle.gateway.specs.Cached.{inboundCached}
 use borrow.Author.Needs.{needs}
 use Rattle.gateway.proofs.inbound.Statement.{statement}
@@ -31,21 +32,20 @@ known c = sym (c .before .before .before .read .ensures) ∙ c .before .reading 
 address-of-requires : tie.Need-address-of-requires
 address-of-requires c κs = search needs
 
-for-gateway-requires : tie.Need-for-gateway-requires
-for-gateway-requires c κs = search needs
+answer-requires : tie.Need-answer-requires
+answer-requires c κs = search needs
 
-to-ipsec-requires : tie.Need-to-ipsec-requires
-to-ipsec-requires c κs = known (c .before .before .before)
+enum-known-own : tie.Need-enum-known-own
+enum-known-own c = search needs
 
 returns-2 : tie.Need-returns-2
 unfolding inboundCached inboundBy
 returns-2 c =
-    rw (
-      known (c .before .before .before .before),
-      sym (c .before .before .before .address-of .ensures),
-      sym (c .before .before .for-gateway .ensures) ∙ c .before .if1 .taken,
-      c .to-ipsec .ensures,
-    )
+    let own = own-answered _ _ _ _ _ (sym (c .before .before .before .answer .ensures) ∙ c .before .own .given .1) in
+    rw (known (c .before .before .before .before .before), sym (c .before .before .before .before .address-of .ensures), own .0, own .1)
+
+enum-told-2 : tie.Need-enum-told-2
+enum-told-2 c = search needs
 
 rows-of-requires : tie.Need-rows-of-requires
 rows-of-requires c κs = search needs
@@ -60,9 +60,9 @@ returns-3 : tie.Need-returns-3
 unfolding inboundCached inboundBy
 returns-3 c =
     rw (
-      known (c .before .before .before .before .before .before .before),
-      sym (c .before .before .before .before .before .before .address-of .ensures),
-      sym (c .before .before .before .before .before .for-gateway .ensures) ∙ c .before .before .before .before .if1 .left,
+      known (c .before .before .before .before .before .before .before .before),
+      sym (c .before .before .before .before .before .before .before .address-of .ensures),
+      not-own _ _ _ _ (sym (c .before .before .before .before .before .before .answer .ensures) ∙ c .before .before .before .before .enum-told2 .given .1),
       c .inbound-action .ensures,
       c .before .before .lookup .ensures,
       c .before .before .before .rows-of .ensures,
@@ -77,9 +77,10 @@ inbound-spec =
     enum-told
     returns
     address-of-requires
-    for-gateway-requires
-    to-ipsec-requires
+    answer-requires
+    enum-known-own
     returns-2
+    enum-told-2
     rows-of-requires
     lookup-requires
     inbound-action-requires

@@ -1,6 +1,6 @@
 -- `gateway::outbound` meets its contract: a packet that is not readable, or the answer of the search. Assumes nothing.
 use mathlib.Core.Path.{sym, _∙_}
-use Rattle.gateway.specs.Calls.{outboundBy}
+use Rattle.verdicts.specs.Calls.{outboundBy}
 use Rattle.gateway.specs.Cached.{outboundCached}
 use borrow.Author.Needs.{needs}
 use Rattle.gateway.proofs.outbound.Statement.{statement}
