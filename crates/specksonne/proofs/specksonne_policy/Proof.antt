@@ -13,11 +13,11 @@ load-requires-2 c κs = search needs
 accept-requires : tie.Need-accept-requires
 accept-requires c κs = search needs
 
-store-requires : tie.Need-store-requires
-store-requires c κs = search needs
+save-requires : tie.Need-save-requires
+save-requires c κs = search needs
 
-store-requires-2 : tie.Need-store-requires-2
-store-requires-2 c κs = search needs
+save-requires-2 : tie.Need-save-requires-2
+save-requires-2 c κs = search needs
 
 acceptance-carries-requires : tie.Need-acceptance-carries-requires
 acceptance-carries-requires c κs = search needs
@@ -31,12 +31,12 @@ returns c =
     rw (
       c .acceptance-number .ensures,
       c .before .acceptance-carries .ensures,
-      c .before .before .store2 .ensures,
-      c .before .before .before .before .before .store .ensures,
+      c .before .before .save2 .ensures,
+      c .before .before .before .before .before .save .ensures,
       a .0,
       a .1,
       c .before .before .before .before .before .before .before .before .before .before .before .load2 .ensures,
-      c .before .before .before .before .before .before .before .before .before .before .before .before .before .before .load .ensures,
+      c .before .before .before .before .before .before .before .before .before .before .before .before .before .load .ensures,
     )
     (refl, (refl, (refl, (refl, refl))))
 
@@ -47,8 +47,8 @@ specksonne-policy-spec =
     load-requires
     load-requires-2
     accept-requires
-    store-requires
-    store-requires-2
+    save-requires
+    save-requires-2
     acceptance-carries-requires
     acceptance-number-requires
     returns)

@@ -3,7 +3,7 @@ use mathlib.Core.Path.{_≡_, refl, sym, ap, _∙_}
 use denote.Ref.{now}
 use Rattle.selectors.specs.declared.Direction.{Direction}
 use Rattle.packet.specs.Read.{readPacket}
-use Rattle.specksonne.specs.Words.{directionFrom}
+use Rattle.abi.specs.Words.{directionFrom}
 use borrow.Author.Needs.{needs}
 use Rattle.specksonne.proofs.specksonne_read.Statement.{statement}
 use Rattle.specksonne.proofs.specksonne_read.Tie as tie

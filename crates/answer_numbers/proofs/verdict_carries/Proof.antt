@@ -1,7 +1,7 @@
--- `specksonne::verdict_carries` meets its contract: the values of each verdict. Assumes nothing.
+-- `answer_numbers::verdict_carries` meets its contract: the values of each verdict. Assumes nothing.
 use borrow.Author.Needs.{needs}
-use Rattle.specksonne.proofs.verdict_carries.Statement.{statement}
-use Rattle.specksonne.proofs.verdict_carries.Tie as tie
+use Rattle.answer_numbers.proofs.verdict_carries.Statement.{statement}
+use Rattle.answer_numbers.proofs.verdict_carries.Tie as tie
 
 enum-told : tie.Need-enum-told
 enum-told c = search needs

@@ -1,7 +1,7 @@
--- `specksonne::compared_carries` meets its contract: the values of each answer. Assumes nothing.
+-- `answer_numbers::compared_carries` meets its contract: the values of each answer. Assumes nothing.
 use borrow.Author.Needs.{needs}
-use Rattle.specksonne.proofs.compared_carries.Statement.{statement}
-use Rattle.specksonne.proofs.compared_carries.Tie as tie
+use Rattle.answer_numbers.proofs.compared_carries.Statement.{statement}
+use Rattle.answer_numbers.proofs.compared_carries.Tie as tie
 
 enum-told : tie.Need-enum-told
 enum-told c = search needs

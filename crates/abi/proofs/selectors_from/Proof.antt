@@ -1,8 +1,8 @@
--- `specksonne::selectors_from` meets its contract: each value from its two words. Assumes nothing.
-use Rattle.specksonne.specs.Words.{selectorsFrom}
+-- `abi::selectors_from` meets its contract: each value from its two words. Assumes nothing.
+use Rattle.abi.specs.Words.{selectorsFrom}
 use borrow.Author.Needs.{needs}
-use Rattle.specksonne.proofs.selectors_from.Statement.{statement}
-use Rattle.specksonne.proofs.selectors_from.Tie as tie
+use Rattle.abi.proofs.selectors_from.Statement.{statement}
+use Rattle.abi.proofs.selectors_from.Tie as tie
 
 element-copy-out-t4 : tie.Need-element-copy-out-t4
 element-copy-out-t4 c = search needs

@@ -1,10 +1,9 @@
--- How directions, values, pairs, caches and answers cross to C as words. Assumes nothing: these are definitions.
+-- How directions, values, pairs, actions and packets cross to C as words. Assumes nothing: these are definitions.
 use Prim.Native.Nat.{ℕ, _-_}
 use mathlib.Core.Bool.{Bool, true, false, cond}
-use mathlib.Core.List.{List, [], _∷_, _++_}
+use mathlib.Core.List.{List, [], _∷_}
 use lib.Dec.{eqb}
-use lib.ListN.{length, getD, take, replicate}
-use Rattle.selectors.specs.Value.{number}
+use lib.ListN.{length, getD, replicate}
 use Rattle.selectors.specs.declared.Direction.{Direction}
 use Rattle.selectors.specs.declared.Direction.the-variants.{Out, In}
 use Rattle.selectors.specs.declared.Selectors.{Selectors}
@@ -16,16 +15,8 @@ use Rattle.policy.specs.declared.Action.{Action}
 use Rattle.policy.specs.declared.Action.the-variants.{Discard, Bypass, Protect}
 use Rattle.policy.specs.declared.Found.{Found}
 use Rattle.policy.specs.declared.Found.the-variants.{Row, Nothing}
-use Rattle.policy_text.specs.declared.Parsed.{Parsed}
-use Rattle.policy_text.specs.declared.Parsed.the-variants.{Rows, NotHeader, NotEnded, TooMany, BadRow, NoRoom}
-use Rattle.policy_print.specs.declared.Printed.{Printed}
-use Rattle.policy_print.specs.declared.Printed.the-variants.{Bytes, NoRoom as NoBytes}
 use Rattle.sad.specs.declared.Ends.{Ends}
 use Rattle.sad.specs.declared.NewPair.{NewPair}
-use Rattle.spd_cache.specs.declared.Cache.{Cache}
-use Rattle.spd.specs.declared.Caches.{Caches}
-use Rattle.same_policy.specs.declared.Compared.{Compared}
-use Rattle.same_policy.specs.Same.{comparedCarries, comparedFile}
 
 -- 1 is out, and any other number in.
 abbrev pub directionFrom : ℕ → Direction
@@ -71,19 +62,6 @@ pairFrom protocol spiIn spiOut n ws =
       «remote_port» = endsFrom ws 16 17 18 19;
     }
 
--- A cache is 706 words: those of the slots, the count of slots in use, the slot whose turn it is.
-abbrev pub slotsWords : ℕ
-slotsWords = 704
-
-unfoldable pub cacheFrom : List ℕ → Cache
-cacheFrom ws = record { words = take slotsWords ws; count = getD ws 704 0; next = getD ws 705 0 }
-
-unfoldable pub cacheWords : Cache → List ℕ
-cacheWords c = c .words ++ c .count ∷ c .next ∷ []
-
-abbrev pub cachesFrom : List ℕ → List ℕ → Caches
-cachesFrom out ins = record { outbound = cacheFrom out; inbound = cacheFrom ins }
-
 -- An action: 0 discard, 1 bypass, 2 protect, and the number N of protect-N.
 abbrev pub actionKind : Action → ℕ
 actionKind Discard = 0
@@ -120,20 +98,3 @@ triggerPart end long = (end - long) ∷ long ∷ []
 abbrev pub triggerWords : List ℕ → Reading → List ℕ
 triggerWords p (Readable k) = triggerPart (k .end) (length (triggerOf p (k .upper) (k .end)))
 triggerWords p Unreadable = 0 ∷ 0 ∷ []
-
--- What the answers to parsing and printing carry: the count of rows or of bytes, the number of the bad row.
-abbrev pub parsedCarries : Parsed → ℕ
-parsedCarries (Rows n) = n
-parsedCarries NotHeader = 0
-parsedCarries NotEnded = 0
-parsedCarries TooMany = 0
-parsedCarries (BadRow i) = i
-parsedCarries NoRoom = 0
-
-abbrev pub printedCarries : Printed → ℕ
-printedCarries (Bytes n) = n
-printedCarries NoBytes = 0
-
--- What comparing two files carries: 1 for the same policy, 0 for another, or the number of a bad row; and, of a refusal, which file, 1 or 2.
-abbrev pub comparedWords : Compared → List ℕ
-comparedWords c = comparedCarries c ∷ comparedFile c ∷ []

@@ -1,7 +1,7 @@
--- `specksonne::direction_from` meets its contract: 1 is out. Assumes nothing.
+-- `abi::direction_from` meets its contract: 1 is out. Assumes nothing.
 use borrow.Author.Tests.{eq-eqb, ne-eqb}
-use Rattle.specksonne.proofs.direction_from.Statement.{statement}
-use Rattle.specksonne.proofs.direction_from.Tie as tie
+use Rattle.abi.proofs.direction_from.Statement.{statement}
+use Rattle.abi.proofs.direction_from.Tie as tie
 
 returns : tie.Need-returns
 returns c = simp (eq-eqb _ _ (c .if1 .taken))

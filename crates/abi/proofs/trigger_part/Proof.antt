@@ -1,9 +1,9 @@
--- `specksonne::trigger_part` meets its contract: the part is no longer than what ends where it ends. Assumes nothing.
+-- `abi::trigger_part` meets its contract: the part is no longer than what ends where it ends. Assumes nothing.
 use denote.Ref.{now}
-use Rattle.specksonne.specs.WordsLaws.{trigger-length}
+use Rattle.abi.specs.WordsLaws.{trigger-length}
 use borrow.Author.Needs.{needs}
-use Rattle.specksonne.proofs.trigger_part.Statement.{statement}
-use Rattle.specksonne.proofs.trigger_part.Tie as tie
+use Rattle.abi.proofs.trigger_part.Statement.{statement}
+use Rattle.abi.proofs.trigger_part.Tie as tie
 
 trigger-requires : tie.Need-trigger-requires
 trigger-requires c κs = search needs

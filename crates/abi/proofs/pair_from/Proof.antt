@@ -1,8 +1,8 @@
--- `specksonne::pair_from` meets its contract: each end from its words. Assumes nothing.
-use Rattle.specksonne.specs.Words.{pairFrom}
+-- `abi::pair_from` meets its contract: each end from its words. Assumes nothing.
+use Rattle.abi.specs.Words.{pairFrom}
 use borrow.Author.Needs.{needs}
-use Rattle.specksonne.proofs.pair_from.Statement.{statement}
-use Rattle.specksonne.proofs.pair_from.Tie as tie
+use Rattle.abi.proofs.pair_from.Statement.{statement}
+use Rattle.abi.proofs.pair_from.Tie as tie
 
 element-copy-out-ends : tie.Need-element-copy-out-ends
 element-copy-out-ends c = search needs
