@@ -154,24 +154,9 @@ fn refuse(answer: Normalised, policy: &[u8], direction: Direction)
     requires { ⌜ answer ≡ normalised 256 direction 30729 (parsePolicy 256 (now policy)) ⌝ }
 {
     io::write_all(STDERR_FILENO, b"normalise: ");
-    io::print_decimal(STDERR_FILENO, number(answer));
+    io::print_decimal(STDERR_FILENO, answer_numbers::normalised_number(answer));
     io::write_all(STDERR_FILENO, b": ");
     say_meaning(answer);
-}
-
-// Document 01's number of an answer.
-fn number(answer: Normalised) -> u64
-    ensures { λ r. ⌜ r ≡ normalisedNumber answer ⌝ }
-{
-    match answer {
-        Normalised::Printed(_) => 5,
-        Normalised::NotHeader => 23,
-        Normalised::NotEnded => 24,
-        Normalised::TooMany => 21,
-        Normalised::BadRow(_) => 20,
-        Normalised::TooLarge(_) => 22,
-        Normalised::NoRoom => 31,
-    }
 }
 
 // Document 01's words for an answer, with what it carries.

@@ -128,11 +128,8 @@ pub extern "C" fn specksonne_search(
     ensures { λ r. ⌜ r ≡ actionKind (orderedSearch (directionFrom direction) (policyRows (now (rows .entry))) (combination (selectorsFrom (now (selectors .entry))))) ⌝ }
     ensures { λ _. ⌜ now (number .exit) ≡ actionNumber (orderedSearch (directionFrom direction) (policyRows (now (rows .entry))) (combination (selectorsFrom (now (selectors .entry))))) ⌝ }
 {
-    let action = policy::search(
-        rows,
-        abi::direction_from(direction),
-        abi::selectors_from(selectors),
-    );
+    let values = abi::selectors_from(selectors);
+    let action = policy::search(rows, abi::direction_from(direction), values);
     *number = abi::action_number(action);
     abi::action_kind(action)
 }
@@ -148,11 +145,8 @@ pub extern "C" fn specksonne_first_match(
     ensures { λ r. ⌜ r ≡ isFound (matchFrom 0 (directionFrom direction) (policyRows (now (rows .entry))) (combination (selectorsFrom (now (selectors .entry))))) ⌝ }
     ensures { λ _. ⌜ now (place .exit) ≡ placeFound (matchFrom 0 (directionFrom direction) (policyRows (now (rows .entry))) (combination (selectorsFrom (now (selectors .entry))))) ⌝ }
 {
-    let found = policy::first_match(
-        rows,
-        abi::direction_from(direction),
-        abi::selectors_from(selectors),
-    );
+    let values = abi::selectors_from(selectors);
+    let found = policy::first_match(rows, abi::direction_from(direction), values);
     *place = abi::place_found(found);
     abi::is_found(found)
 }

@@ -25,8 +25,8 @@ returns c =
       c .is-found .ensures,
       c .before .place-found .ensures,
       c .before .before .first-match .ensures,
-      c .before .before .before .selectors-from .ensures,
-      c .before .before .before .before .direction-from .ensures,
+      c .before .before .before .direction-from .ensures,
+      c .before .before .before .before .selectors-from .ensures,
     )
     (refl, refl)
 
@@ -34,8 +34,8 @@ pub specksonne-first-match-spec : {M : Type 1} → statement M
 specksonne-first-match-spec =
     tie.close
     (tie.spec
-    direction-from-requires
     selectors-from-requires
+    direction-from-requires
     first-match-requires
     place-found-requires
     is-found-requires

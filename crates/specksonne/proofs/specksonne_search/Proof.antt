@@ -25,8 +25,8 @@ returns c =
       c .action-kind .ensures,
       c .before .action-number .ensures,
       c .before .before .search .ensures,
-      c .before .before .before .selectors-from .ensures,
-      c .before .before .before .before .direction-from .ensures,
+      c .before .before .before .direction-from .ensures,
+      c .before .before .before .before .selectors-from .ensures,
     )
     (refl, refl)
 
@@ -34,8 +34,8 @@ pub specksonne-search-spec : {M : Type 1} → statement M
 specksonne-search-spec =
     tie.close
     (tie.spec
-    direction-from-requires
     selectors-from-requires
+    direction-from-requires
     search-requires
     action-number-requires
     action-kind-requires
