@@ -7,6 +7,7 @@ ghost use Rattle.selectors.specs.Value.{number};
 ghost use Rattle.selectors.specs.Ranges.{fromTo, addressRange, protocolRange, portRange, newAddressRange, newProtocolRange, newPortRange};
 
 // A value of a field: the number upper * 2^64 + lower.
+#[repr(C)]
 pub struct Value {
     pub upper: u64,
     pub lower: u64,
@@ -121,6 +122,7 @@ fn same_ends(low: Value, high: Value, other_low: Value, other_high: Value) -> bo
     false
 }
 
+#[repr(C)]
 pub struct AddressRange {
     pub low: Value,
     pub high: Value,
@@ -168,6 +170,7 @@ impl AddressRange {
     }
 }
 
+#[repr(C)]
 pub struct ProtocolRange {
     pub low: Value,
     pub high: Value,
@@ -215,6 +218,7 @@ impl ProtocolRange {
     }
 }
 
+#[repr(C)]
 pub struct PortRange {
     pub low: Value,
     pub high: Value,
