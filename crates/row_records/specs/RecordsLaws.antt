@@ -7,7 +7,7 @@ use mathlib.Core.List.{List, [], _∷_, map, _++_}
 use lib.ListN.{length, drop, length-append}
 use lib.Seq.{getD-drop, drop-drop}
 use Rattle.selectors.specs.declared.Direction.{Direction}
-use Rattle.policy.specs.Policy.{PolicyRow, orderedSearch}
+use Rattle.policy.specs.Policy.{orderedSearch}
 use Rattle.policy.specs.Words.{valueAt, rowWords, rowAt, rowsFrom, policyRows}
 use Rattle.policy.specs.RowsLaws.{row-same}
 use Rattle.row_records.specs.declared.Row.{Row}
