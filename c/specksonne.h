@@ -168,6 +168,10 @@ uint64_t specksonne_print(const uint64_t *rows, size_t words, uint64_t direction
 uint64_t specksonne_search(const uint64_t *rows, size_t words, uint64_t direction,
                            const uint64_t selectors[10], uint64_t *number);
 
+/* The same over a list of `count` row records of 22 words each, in the order of a flat list. */
+uint64_t specksonne_search_records(const uint64_t (*rows)[22], size_t count, uint64_t direction,
+                                   const uint64_t selectors[10], uint64_t *number);
+
 /* Whether a row matches, and the place of the first that does, counted from 0. */
 bool specksonne_first_match(const uint64_t *rows, size_t words, uint64_t direction,
                             const uint64_t selectors[10], uint64_t *place);

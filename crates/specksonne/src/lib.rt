@@ -1,11 +1,12 @@
 // The library that C and Rust programs link: each exported function hands numbers and lent words on to one proved call.
 ghost use mathlib.Core.Path.{_≡_};
-ghost use mathlib.Core.List.{[]};
+ghost use mathlib.Core.List.{[], map};
 ghost use lib.ListN.{length, replicate};
 ghost use Rattle.selectors.specs.Value.{combination};
 ghost use Rattle.packet.specs.Read.{readPacket};
 ghost use Rattle.policy.specs.Policy.{orderedSearch, matchFrom};
 ghost use Rattle.policy.specs.Words.{policyRows};
+ghost use Rattle.row_records.specs.Records.{rowOf};
 ghost use Rattle.policy_text.specs.Format.{parsePolicy};
 ghost use Rattle.policy_parse.specs.Parsing.{parsedIn, parsedRoom, parsedNumber};
 ghost use Rattle.policy_print.specs.Printing.{printed, printedIn, printedRoom, printedNumber};
@@ -22,6 +23,7 @@ ghost use Rattle.answer_numbers.specs.Carries.{parsedCarries, printedCarries, c
 ghost use Rattle.abi.specs.Words.{directionFrom, selectorsFrom, pairFrom, actionKind, actionNumber, isFound, placeFound, isReadable, readingWords, triggerWords};
 ghost use Rattle.specksonne.specs.Fresh.{cachesFrom};
 use packet::Reading;
+use row_records::Row;
 use selectors::Direction;
 use spd::Caches;
 
@@ -130,6 +132,26 @@ pub extern "C" fn specksonne_search(
 {
     let values = abi::selectors_from(selectors);
     let action = policy::search(rows, abi::direction_from(direction), values);
+    *number = abi::action_number(action);
+    abi::action_kind(action)
+}
+
+// The same over a lent list of row records (`row_records::search`).
+#[no_mangle]
+pub extern "C" fn specksonne_search_records(
+    rows: &[Row],
+    direction: u64,
+    selectors: &[u64; 10],
+    number: &mut u64,
+) -> u64
+    ensures { λ r. ⌜ r ≡ actionKind (orderedSearch (directionFrom direction) (map rowOf (now (rows .entry))) (combination (selectorsFrom (now (selectors .entry))))) ⌝ }
+    ensures { λ _. ⌜ now (number .exit) ≡ actionNumber (orderedSearch (directionFrom direction) (map rowOf (now (rows .entry))) (combination (selectorsFrom (now (selectors .entry))))) ⌝ }
+{
+    let action = row_records::search(
+        rows,
+        abi::direction_from(direction),
+        abi::selectors_from(selectors),
+    );
     *number = abi::action_number(action);
     abi::action_kind(action)
 }
