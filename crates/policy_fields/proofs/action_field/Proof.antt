@@ -1,5 +1,5 @@
 -- `policy_fields::action_field` meets its contract: by the three words. Assumes nothing.
-use mathlib.Core.Path.{_≡_}
+use mathlib.Core.Path.{_≡_, sym, _∙_}
 use mathlib.Core.Bool.{true, false}
 use Rattle.policy_text.specs.Bytes.{dash, before, sameBytes}
 use Rattle.policy_text.specs.Format.{bypassWord, discardWord, protectWord, actionField}
@@ -7,6 +7,13 @@ use Rattle.policy_text.specs.FormatLaws.{decimal-at-most}
 use borrow.Author.Needs.{needs}
 use Rattle.policy_fields.proofs.action_field.Statement.{statement}
 use Rattle.policy_fields.proofs.action_field.Tie as tie
+
+-- What the tests said, where each failed.
+not-bypass : (c : tie.Else1) → sameBytes (c .before .before .before .before .args .s .now) bypassWord ≡ false
+not-bypass c = sym (c .before .same .ensures) ∙ c .if1 .left
+
+not-discard : (c : tie.Else2) → sameBytes (c .before .before .before .before .before .before .before .args .s .now) discardWord ≡ false
+not-discard c = sym (c .before .same2 .ensures) ∙ c .if2 .left
 
 slice-aggregate-same : tie.Need-slice-aggregate-same
 slice-aggregate-same c = search needs
@@ -16,10 +23,7 @@ same-requires c κs = search needs
 
 returns : tie.Need-returns
 unfolding actionField
-returns c =
-    let s = c .before .before .before .before .args .s .now in
-    let b : sameBytes s bypassWord ≡ true = cc in
-    rw b
+returns c = rw (sym (c .before .same .ensures) ∙ c .if1 .taken)
 
 slice-aggregate-same-2 : tie.Need-slice-aggregate-same-2
 slice-aggregate-same-2 c = search needs
@@ -29,11 +33,7 @@ same-requires-2 c κs = search needs
 
 returns-2 : tie.Need-returns-2
 unfolding actionField
-returns-2 c =
-    let s = c .before .before .before .before .before .before .before .args .s .now in
-    let b : sameBytes s bypassWord ≡ false = cc in
-    let d : sameBytes s discardWord ≡ true = cc in
-    rw (b, d)
+returns-2 c = rw (not-bypass (c .before .before .before), sym (c .before .same2 .ensures) ∙ c .if2 .taken)
 
 before-requires : tie.Need-before-requires
 before-requires c κs = search needs
@@ -56,20 +56,15 @@ protect-requires c κs = rw (c .decimal .ensures) (decimal-at-most 255 _)
 returns-3 : tie.Need-returns-3
 unfolding actionField
 returns-3 c =
-    let s = c .before .before .before .before .before .before .before .before .before .before .before .before .before .before .args .s .now in
-    let b : sameBytes s bypassWord ≡ false = cc in
-    let d : sameBytes s discardWord ≡ false = cc in
-    let p : sameBytes (before dash s) protectWord ≡ true = cc in
-    rw (b, d, p) cc
+    let t = c .before .before .before in
+    let p = rw (t .before .before .before .before2 .ensures) at (sym (t .before .same3 .ensures) ∙ t .if3 .taken) in
+    rw (not-bypass (t .before .before .before .before .before .before .before), not-discard (t .before .before .before .before), p, ← c .before .before .after .ensures, ← c .before .decimal .ensures) (c .protect .ensures)
 
 returns-4 : tie.Need-returns-4
 unfolding actionField
 returns-4 c =
-    let s = c .before .before .before .before .before .before .before .before .before .before .before .args .s .now in
-    let b : sameBytes s bypassWord ≡ false = cc in
-    let d : sameBytes s discardWord ≡ false = cc in
-    let p : sameBytes (before dash s) protectWord ≡ false = cc in
-    rw (b, d, p)
+    let p = rw (c .before .before .before .before2 .ensures) at (sym (c .before .same3 .ensures) ∙ c .if3 .left) in
+    rw (not-bypass (c .before .before .before .before .before .before .before), not-discard (c .before .before .before .before), p)
 
 pub action-field-spec : {M : Type 1} → statement M
 action-field-spec =

@@ -1,13 +1,20 @@
 -- `policy_fields::address_field` meets its contract: by the definition's tests, in its order. Assumes nothing.
-use mathlib.Core.Path.{_≡_}
-use mathlib.Core.Bool.{true, false}
-use Rattle.policy_text.specs.Bytes.{dash, slash, sameBytes}
+use mathlib.Core.Path.{_≡_, sym, _∙_}
+use mathlib.Core.Bool.{false}
+use Rattle.policy_text.specs.Bytes.{dash, slash, sameBytes, has}
 use Rattle.policy_text.specs.BytesLaws.{has-there, has-not}
 use Rattle.policy_text.specs.Format.{any, addressField}
 use Rattle.policy_text.specs.FormatLaws.{address-at-most}
 use borrow.Author.Needs.{needs}
 use Rattle.policy_fields.proofs.address_field.Statement.{statement}
 use Rattle.policy_fields.proofs.address_field.Tie as tie
+
+-- What the first two tests said, where each failed.
+not-any : (c : tie.Else1) → sameBytes (c .before .before .before .before .args .s .now) any ≡ false
+not-any c = sym (c .before .same .ensures) ∙ c .if1 .left
+
+no-slash : (c : tie.Else2) → has slash (c .before .before .before .before .before .before .args .s .now) ≡ false
+no-slash c = has-not slash _ _ (c .before .find .ensures .0) (c .if2 .left)
 
 slice-aggregate-same : tie.Need-slice-aggregate-same
 slice-aggregate-same c = search needs
@@ -17,10 +24,7 @@ same-requires c κs = search needs
 
 returns : tie.Need-returns
 unfolding addressField
-returns c =
-    let s = c .before .before .before .before .args .s .now in
-    let a : sameBytes s any ≡ true = cc in
-    rw a
+returns c = rw (sym (c .before .same .ensures) ∙ c .if1 .taken)
 
 find-requires : tie.Need-find-requires
 find-requires c κs = search needs
@@ -43,10 +47,9 @@ masked-requires c κs = (rw (c .before .before .address .ensures) (address-at-mo
 returns-2 : tie.Need-returns-2
 unfolding addressField
 returns-2 c =
-    let s = c .before .before .before .before .before .before .before .before .before .before .before .args .s .now in
-    let a : sameBytes s any ≡ false = cc in
-    let h = has-there slash s _ (c .before .before .before .before .before .before .find .ensures .0) (c .before .before .before .before .before .if2 .taken) in
-    rw (a, h) cc
+    let t = c .before .before .before .before .before in
+    let h = has-there slash _ _ (t .before .find .ensures .0) (t .if2 .taken) in
+    rw (not-any (t .before .before), h, ← c .before .before .before .before .before2 .ensures, ← c .before .before .before .address .ensures, ← c .before .before .after .ensures, ← c .before .address2 .ensures) (c .masked .ensures)
 
 find-requires-2 : tie.Need-find-requires-2
 find-requires-2 c κs = search needs
@@ -69,11 +72,9 @@ address-span-requires c κs = search needs
 returns-3 : tie.Need-returns-3
 unfolding addressField
 returns-3 c =
-    let s = c .before .before .before .before .before .before .before .before .before .before .before .before .before .args .s .now in
-    let a : sameBytes s any ≡ false = cc in
-    let h = has-not slash s _ (c .before .before .before .before .before .before .before .before .find .ensures .0) (c .before .before .before .before .before .before .before .if2 .left) in
-    let d = has-there dash s _ (c .before .before .before .before .before .before .find2 .ensures .0) (c .before .before .before .before .before .if3 .taken) in
-    rw (a, h, d) cc
+    let t = c .before .before .before .before .before in
+    let d = has-there dash _ _ (t .before .find2 .ensures .0) (t .if3 .taken) in
+    rw (not-any (t .before .before .before .before), no-slash (t .before .before), d, ← c .before .before .before .before .before3 .ensures, ← c .before .before .before .address3 .ensures, ← c .before .before .after2 .ensures, ← c .before .address4 .ensures) (c .address-span .ensures)
 
 address-requires-5 : tie.Need-address-requires-5
 address-requires-5 c κs = search needs
@@ -87,11 +88,9 @@ address-span-requires-2 c κs = search needs
 returns-4 : tie.Need-returns-4
 unfolding addressField
 returns-4 c =
-    let s = c .before .before .before .before .before .before .before .before .before .before .before .args .s .now in
-    let a : sameBytes s any ≡ false = cc in
-    let h = has-not slash s _ (c .before .before .before .before .before .before .find .ensures .0) (c .before .before .before .before .before .if2 .left) in
-    let d = has-not dash s _ (c .before .before .before .before .find2 .ensures .0) (c .before .before .before .if3 .left) in
-    rw (a, h, d) cc
+    let t = c .before .before .before in
+    let d = has-not dash _ _ (t .before .find2 .ensures .0) (t .if3 .left) in
+    rw (not-any (t .before .before .before .before), no-slash (t .before .before), d) (rw (c .before .before .address5 .ensures, c .before .address6 .ensures) at (c .address-span2 .ensures))
 
 pub address-field-spec : {M : Type 1} → statement M
 address-field-spec =

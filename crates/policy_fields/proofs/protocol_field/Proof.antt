@@ -1,12 +1,16 @@
 -- `policy_fields::protocol_field` meets its contract: by the definition's tests, in its order. Assumes nothing.
-use mathlib.Core.Path.{_≡_}
-use mathlib.Core.Bool.{true, false}
+use mathlib.Core.Path.{_≡_, sym, _∙_}
+use mathlib.Core.Bool.{false}
 use Rattle.policy_text.specs.Bytes.{dash, sameBytes}
 use Rattle.policy_text.specs.BytesLaws.{has-there, has-not}
 use Rattle.policy_text.specs.Format.{any, protocolField}
 use borrow.Author.Needs.{needs}
 use Rattle.policy_fields.proofs.protocol_field.Statement.{statement}
 use Rattle.policy_fields.proofs.protocol_field.Tie as tie
+
+-- What the first test said, where it failed.
+not-any : (c : tie.Else1) → sameBytes (c .before .before .before .before .args .s .now) any ≡ false
+not-any c = sym (c .before .same .ensures) ∙ c .if1 .left
 
 slice-aggregate-same : tie.Need-slice-aggregate-same
 slice-aggregate-same c = search needs
@@ -16,10 +20,7 @@ same-requires c κs = search needs
 
 returns : tie.Need-returns
 unfolding protocolField
-returns c =
-    let s = c .before .before .before .before .args .s .now in
-    let a : sameBytes s any ≡ true = cc in
-    rw a
+returns c = rw (sym (c .before .same .ensures) ∙ c .if1 .taken)
 
 find-requires : tie.Need-find-requires
 find-requires c κs = search needs
@@ -42,10 +43,9 @@ protocol-span-requires c κs = search needs
 returns-2 : tie.Need-returns-2
 unfolding protocolField
 returns-2 c =
-    let s = c .before .before .before .before .before .before .before .before .before .before .before .args .s .now in
-    let a : sameBytes s any ≡ false = cc in
-    let d = has-there dash s _ (c .before .before .before .before .before .before .find .ensures .0) (c .before .before .before .before .before .if2 .taken) in
-    rw (a, d) cc
+    let t = c .before .before .before .before .before in
+    let d = has-there dash _ _ (t .before .find .ensures .0) (t .if2 .taken) in
+    rw (not-any (t .before .before), d, ← c .before .before .before .before .before2 .ensures, ← c .before .before .before .decimal .ensures, ← c .before .before .after .ensures, ← c .before .decimal2 .ensures) (c .protocol-span .ensures)
 
 decimal-requires-3 : tie.Need-decimal-requires-3
 decimal-requires-3 c κs = search needs
@@ -59,10 +59,9 @@ protocol-span-requires-2 c κs = search needs
 returns-3 : tie.Need-returns-3
 unfolding protocolField
 returns-3 c =
-    let s = c .before .before .before .before .before .before .before .before .before .args .s .now in
-    let a : sameBytes s any ≡ false = cc in
-    let d = has-not dash s _ (c .before .before .before .before .find .ensures .0) (c .before .before .before .if2 .left) in
-    rw (a, d) cc
+    let t = c .before .before .before in
+    let d = has-not dash _ _ (t .before .find .ensures .0) (t .if2 .left) in
+    rw (not-any (t .before .before), d) (rw (c .before .before .decimal3 .ensures, c .before .decimal4 .ensures) at (c .protocol-span2 .ensures))
 
 pub protocol-field-spec : {M : Type 1} → statement M
 protocol-field-spec =
