@@ -42,7 +42,8 @@ returns : tie.Need-returns Inv-loop μ-loop
 returns c =
     let a = c .before .before .before .before .before .before .before .args in
     let l = c .before .before .before .before .before .loop in
-    let e : entryOf (before lf (drop (l .at) (a .body .now))) ≡ RowBad = cc in
+    let e : entryOf (before lf (drop (l .at) (a .body .now))) ≡ RowBad =
+    sym (rw (c .before .before .before .line-at .ensures) at (c .before .before .row .ensures)) ∙ c .enum-told2 .given .1 in
     sym (l .inv .2 ∙ bad-line (drop (l .at) (a .body .now)) (l .i) (a .count) (search needs) e)
 
 next-line-requires : tie.Need-next-line-requires Inv-loop μ-loop
@@ -59,7 +60,8 @@ loop-again c =
     let a = c .before .before .before .before .before .before .before .before .args in
     let l = c .before .before .before .before .before .before .loop in
     let x = c .before .enum-told .given in
-    let e : entryOf (before lf (drop (l .at) (a .body .now))) ≡ RowIs (x .0 .0) = cc in (
+    let e : entryOf (before lf (drop (l .at) (a .body .now))) ≡ RowIs (x .0 .0) =
+    sym (rw (c .before .before .before .before .line-at .ensures) at (c .before .before .before .row .ensures)) ∙ x .1 in (
       search needs,
       search needs,
       l .inv .2

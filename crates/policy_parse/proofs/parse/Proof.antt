@@ -2,17 +2,35 @@
 use Prim.Native.Nat.{_-_}
 use native.Mathlib.Omega.{arith}
 use mathlib.Core.Path.{_≡_, sym, _∙_}
-use mathlib.Core.Bool.{true, false}
+use mathlib.Core.Bool.{true}
 use lib.ListN.{length, getD, take, drop}
 use borrow.Author.Tests.{not-true, not-false}
 use Rattle.policy_text.specs.Bytes.{lf, count, sameBytes}
-use Rattle.policy_text.specs.Format.{header, linesOf, rowsOf}
+use Rattle.policy_text.specs.Format.{header, linesOf, rowsOf, parsePolicy}
 use Rattle.policy_parse.specs.Parsing.{badOf}
 use Rattle.policy_parse.specs.RowsLaws.{length-lines}
 use Rattle.policy_parse.specs.FileLaws.{not-header, not-ended, too-many, within-limit, refused-row, parsed-fits, parsed-short}
 use borrow.Author.Needs.{needs}
 use Rattle.policy_parse.proofs.parse.Statement.{statement}
 use Rattle.policy_parse.proofs.parse.Tie as tie
+
+-- What is known of the file once each test has failed.
+headed : (c : tie.Else1) → sameBytes (take 9 (c .before .before .before .before .before .before .args .bytes .now)) header ≡ true
+headed c = sym (rw (c .before .before .before .first-nine .ensures) at (c .before .same .ensures)) ∙ not-false _ (c .if1 .left)
+
+ended : (c : tie.Else2) → let s = c .before .before .before .before .before .before .before .before .args .bytes .now in getD s (length s - 1) 0 ≡ lf
+ended c = sym (c .before .last .ensures) ∙ c .if2 .left
+
+lines : (c : tie.After-count) → c .count .result ≡ count lf (drop 9 (c .before .before .before .before .before .before .before .before .before .before .args .bytes .now))
+lines c = c .count .ensures ∙ rw (c .before .after-nine .ensures)
+
+within : (c : tie.Else3) → let a = c .before .before .before .before .before .before .before .before .before .before .before .args in let b = drop 9 (a .bytes .now) in
+    parsePolicy (a .limit) (a .bytes .now) ≡ rowsOf 1 (linesOf (count lf b) b)
+within c = within-limit _ _ (headed (c .before .before .before .before .before)) (ended (c .before .before .before)) (rw (lines (c .before)) at (c .if3 .left))
+
+bad-row : (c : tie.After-first-bad) → let b = drop 9 (c .before .before .before .before .before .before .before .before .before .before .before .before .args .bytes .now) in
+    c .first-bad .result ≡ badOf (rowsOf 1 (linesOf (count lf b) b))
+bad-row c = c .first-bad .ensures ∙ rw (lines (c .before .before), c .before .before .before .after-nine .ensures)
 
 first-nine-requires : tie.Need-first-nine-requires
 first-nine-requires c κs = search needs
@@ -25,11 +43,9 @@ same-requires c κs = search needs
 
 returns : tie.Need-returns
 returns c =
+    let h = sym (rw (c .before .before .before .first-nine .ensures) at (c .before .same .ensures)) ∙ not-true _ (c .if1 .taken) in
     let a = c .before .before .before .before .before .before .args in
-    let s = a .bytes .now in
-    let b : c .before .same .result ≡ false = not-true _ (c .if1 .taken) in
-    let h : sameBytes (take 9 s) header ≡ false = cc in
-    let p = not-header (a .limit) s h in
+    let p = not-header (a .limit) (a .bytes .now) h in
     (rw p, rw p)
 
 last-requires : tie.Need-last-requires
@@ -38,10 +54,7 @@ last-requires c κs = search needs
 returns-2 : tie.Need-returns-2
 returns-2 c =
     let a = c .before .before .before .before .before .before .before .before .args in
-    let s = a .bytes .now in
-    let b : c .before .before .before .same .result ≡ true = not-false _ (c .before .before .if1 .left) in
-    let h : sameBytes (take 9 s) header ≡ true = cc in
-    let p = not-ended (a .limit) s h (rw (c .before .last .ensures) at (c .if2 .taken)) in
+    let p = not-ended (a .limit) (a .bytes .now) (headed (c .before .before)) (rw (c .before .last .ensures) at (c .if2 .taken)) in
     (rw p, rw p)
 
 after-nine-requires : tie.Need-after-nine-requires
@@ -53,12 +66,7 @@ count-requires c κs = search needs
 returns-3 : tie.Need-returns-3
 returns-3 c =
     let a = c .before .before .before .before .before .before .before .before .before .before .before .args in
-    let s = a .bytes .now in
-    let b : c .before .before .before .before .before .before .same .result ≡ true = not-false _ (c .before .before .before .before .before .if1 .left) in
-    let h : sameBytes (take 9 s) header ≡ true = cc in
-    let e : getD s (length s - 1) 0 ≡ lf = cc in
-    let n : c .before .count .result ≡ count lf (drop 9 s) = c .before .count .ensures ∙ rw (c .before .before .after-nine .ensures) in
-    let p = too-many (a .limit) s h e (omega (arith, n, c .if3 .taken)) in
+    let p = too-many (a .limit) (a .bytes .now) (headed (c .before .before .before .before .before)) (ended (c .before .before .before)) (rw (lines (c .before)) at (c .if3 .taken)) in
     (rw p, rw p)
 
 first-bad-requires : tie.Need-first-bad-requires
@@ -66,30 +74,17 @@ first-bad-requires c κs = search needs
 
 returns-4 : tie.Need-returns-4
 returns-4 c =
-    let a = c .before .before .before .before .before .before .before .before .before .before .before .before .before .args in
-    let s = a .bytes .now in
-    let b : c .before .before .before .before .before .before .before .before .same .result ≡ true = not-false _ (c .before .before .before .before .before .before .before .if1 .left) in
-    let h : sameBytes (take 9 s) header ≡ true = cc in
-    let e : getD s (length s - 1) 0 ≡ lf = cc in
-    let n : c .before .before .before .count .result ≡ count lf (drop 9 s) = c .before .before .before .count .ensures ∙ rw (c .before .before .before .before .after-nine .ensures) in
-    let p = within-limit (a .limit) s h e (omega (arith, n, c .before .before .if3 .left)) in
-    let ls = linesOf (count lf (drop 9 s)) (drop 9 s) in
-    let f : c .before .first-bad .result ≡ badOf (rowsOf 1 ls) = c .before .first-bad .ensures ∙ rw (n, c .before .before .before .before .after-nine .ensures) in
-    let q = refused-row ls _ f (c .if4 .taken) in
+    let p = within (c .before .before) in
+    let q = refused-row _ _ (bad-row (c .before)) (c .if4 .taken) in
     (rw (p, q), rw (p, q))
 
 returns-5 : tie.Need-returns-5
 returns-5 c =
     let a = c .before .before .before .before .before .before .before .before .before .before .before .before .before .before .args in
-    let s = a .bytes .now in
-    let b : c .before .before .before .before .before .before .before .before .before .same .result ≡ true = not-false _ (c .before .before .before .before .before .before .before .before .if1 .left) in
-    let h : sameBytes (take 9 s) header ≡ true = cc in
-    let e : getD s (length s - 1) 0 ≡ lf = cc in
-    let n : c .before .before .before .before .count .result ≡ count lf (drop 9 s) = c .before .before .before .before .count .ensures ∙ rw (c .before .before .before .before .before .after-nine .ensures) in
-    let p = within-limit (a .limit) s h e (omega (arith, n, c .before .before .before .if3 .left)) in
-    let ls = linesOf (count lf (drop 9 s)) (drop 9 s) in
-    let f : c .before .before .first-bad .result ≡ badOf (rowsOf 1 ls) = c .before .before .first-bad .ensures ∙ rw (n, c .before .before .before .before .before .after-nine .ensures) in
-    let q = parsed-short ls (a .rows .now) (sym f ∙ c .before .if4 .left) (omega (arith, n, c .if5 .taken, length-lines (count lf (drop 9 s)) (drop 9 s))) in
+    let b = drop 9 (a .bytes .now) in
+    let p = within (c .before .before .before) in
+    let f = sym (bad-row (c .before .before)) ∙ c .before .if4 .left in
+    let q = parsed-short (linesOf (count lf b) b) (a .rows .now) f (omega (arith, lines (c .before .before .before .before), c .if5 .taken, length-lines (count lf b) b)) in
     (rw (p, q .0), rw (p, q .1))
 
 put-rows-requires : tie.Need-put-rows-requires
@@ -101,15 +96,11 @@ same-length c = search needs
 returns-6 : tie.Need-returns-6
 returns-6 c =
     let a = c .before .before .before .before .before .before .before .before .before .before .before .before .before .before .before .before .before .before .args in
-    let s = a .bytes .now in
-    let b : c .before .before .before .before .before .before .before .before .before .before .before .before .before .same .result ≡ true = not-false _ (c .before .before .before .before .before .before .before .before .before .before .before .before .if1 .left) in
-    let h : sameBytes (take 9 s) header ≡ true = cc in
-    let e : getD s (length s - 1) 0 ≡ lf = cc in
-    let n : c .before .before .before .before .before .before .before .before .count .result ≡ count lf (drop 9 s) = c .before .before .before .before .before .before .before .before .count .ensures ∙ rw (c .before .before .before .before .before .before .before .before .before .after-nine .ensures) in
-    let p = within-limit (a .limit) s h e (omega (arith, n, c .before .before .before .before .before .before .before .if3 .left)) in
-    let ls = linesOf (count lf (drop 9 s)) (drop 9 s) in
-    let f : c .before .before .before .before .before .before .first-bad .result ≡ badOf (rowsOf 1 ls) = c .before .before .before .before .before .before .first-bad .ensures ∙ rw (n, c .before .before .before .before .before .before .before .before .before .after-nine .ensures) in
-    let q = parsed-fits ls (a .rows .now) (sym f ∙ c .before .before .before .before .before .if4 .left) (omega (arith, n, c .before .before .before .before .if5 .left, length-lines (count lf (drop 9 s)) (drop 9 s))) in
+    let b = drop 9 (a .bytes .now) in
+    let n = lines (c .before .before .before .before .before .before .before .before) in
+    let p = within (c .before .before .before .before .before .before .before) in
+    let f = sym (bad-row (c .before .before .before .before .before .before)) ∙ c .before .before .before .before .before .if4 .left in
+    let q = parsed-fits (linesOf (count lf b) b) (a .rows .now) f (omega (arith, n, c .before .before .before .before .if5 .left, length-lines (count lf b) b)) in
     (rw (p, q .0, n, length-lines), rw (p, q .1) (c .before .before .put-rows .ensures ∙ rw (n, c .before .before .before .before .before .before .before .before .before .after-nine .ensures)))
 
 pub parse-spec : {M : Type 1} → statement M
