@@ -104,7 +104,9 @@ fn trigger(packet: &[u8]) -> Reply {
 fn search(direction: Direction, file: &[u8], values: &Values) -> Reply {
     match Policy::parse(file) {
         Ok(policy) => {
-            let action = policy.search(direction_of(direction), &selectors_of(values));
+            let (direction, selectors) = (direction_of(direction), selectors_of(values));
+            let action = policy.search(direction, &selectors);
+            assert_eq!(action, policy.search_records(direction, &selectors), "over row records");
             Reply::Words(action.to_string())
         }
         Err(refusal) => refused(refusal),

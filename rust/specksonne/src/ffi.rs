@@ -20,12 +20,13 @@ pub type Table = [u64; TABLE_WORDS];
 pub type CacheWords = [u64; CACHE_WORDS];
 pub type SelectorWords = [u64; 10];
 pub type RangeWords = [u64; 20];
+pub type RowWords = [u64; ROW_WORDS];
 
 // The library is for 64-bit machines, and counts are passed as they are.
 const _: () = assert!(size_of::<usize>() == size_of::<u64>());
 
 mod raw {
-    use super::{CacheWords, PolicyWords, RangeWords, SelectorWords, Table};
+    use super::{CacheWords, PolicyWords, RangeWords, RowWords, SelectorWords, Table};
 
     #[rustfmt::skip]
     extern "C" {
@@ -34,6 +35,7 @@ mod raw {
         pub fn specksonne_read(direction: u64, bytes: *const u8, length: usize, selectors: &mut SelectorWords) -> bool;
         pub fn specksonne_trigger(bytes: *const u8, length: usize, part: &mut [u64; 2]) -> bool;
         pub fn specksonne_search(rows: *const u64, words: usize, direction: u64, selectors: &SelectorWords, number: &mut u64) -> u64;
+        pub fn specksonne_search_records(rows: *const RowWords, count: usize, direction: u64, selectors: &SelectorWords, number: &mut u64) -> u64;
         pub fn specksonne_first_match(rows: *const u64, words: usize, direction: u64, selectors: &SelectorWords, place: &mut u64) -> bool;
         pub fn specksonne_parse(bytes: *const u8, length: usize, rows: *mut u64, words: usize, carries: &mut u64) -> u64;
         pub fn specksonne_print(rows: *const u64, words: usize, direction: u64, out: *mut u8, room: usize, carries: &mut u64) -> u64;
@@ -88,6 +90,17 @@ pub fn trigger(bytes: &[u8], part: &mut [u64; 2]) -> bool {
 /// The kind of the action of the ordered search, and its protect number.
 pub fn search(rows: &[u64], direction: u64, selectors: &SelectorWords, number: &mut u64) -> u64 {
     unsafe { raw::specksonne_search(rows.as_ptr(), rows.len(), direction, selectors, number) }
+}
+
+/// The same over a list of row records.
+pub fn search_records(
+    rows: &[RowWords],
+    direction: u64,
+    selectors: &SelectorWords,
+    number: &mut u64,
+) -> u64 {
+    let (rows, count) = (rows.as_ptr(), rows.len());
+    unsafe { raw::specksonne_search_records(rows, count, direction, selectors, number) }
 }
 
 /// Whether a row matches, and its place.

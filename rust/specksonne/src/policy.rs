@@ -17,6 +17,17 @@ pub enum Action {
     Protect(u64),
 }
 
+impl Action {
+    /// The action that the library gives as a kind and a protect number.
+    fn from_kind(kind: u64, number: u64) -> Action {
+        match kind {
+            0 => Action::Discard,
+            1 => Action::Bypass,
+            _ => Action::Protect(number),
+        }
+    }
+}
+
 impl fmt::Display for Action {
     fn fmt(&self, f: &mut fmt::Formatter) -> fmt::Result {
         match self {
@@ -74,11 +85,17 @@ impl Policy {
     pub fn search(&self, direction: Direction, selectors: &Selectors) -> Action {
         let mut number = 0;
         let words = selectors.words();
-        match ffi::search(&self.words, direction.number(), &words, &mut number) {
-            0 => Action::Discard,
-            1 => Action::Bypass,
-            _ => Action::Protect(number),
-        }
+        let kind = ffi::search(&self.words, direction.number(), &words, &mut number);
+        Action::from_kind(kind, number)
+    }
+
+    /// The same search, over the rows as a list of records.
+    pub fn search_records(&self, direction: Direction, selectors: &Selectors) -> Action {
+        let mut number = 0;
+        let words = selectors.words();
+        let (rows, _) = self.words.as_chunks();
+        let kind = ffi::search_records(rows, direction.number(), &words, &mut number);
+        Action::from_kind(kind, number)
     }
 
     /// The place of the first row that matches, counted from 0.

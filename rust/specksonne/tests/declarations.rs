@@ -49,12 +49,15 @@ fn rust_like(
     found
 }
 
-/// A slice is a pointer and a count; an array is a pointer to that many.
+/// A slice is a pointer and a count; an array is a pointer to that many; a row record is 22 words.
 fn exported_type(kind: &str) -> Vec<String> {
     let (access, of) = match kind.strip_prefix("&mut ") {
         Some(of) => ("mut", of),
         None => ("const", kind.strip_prefix('&').unwrap_or(kind)),
     };
+    if of == "[Row]" {
+        return vec![format!("{access} u64 22"), "usize".to_string()];
+    }
     match of.strip_prefix('[').and_then(|of| of.strip_suffix(']')) {
         Some(inner) => match inner.split_once("; ") {
             Some((element, count)) => vec![format!("{access} {element} {count}")],
@@ -76,6 +79,7 @@ fn rust_type(kind: &str) -> Vec<String> {
     .iter()
     .fold(kind.to_string(), |kind, (name, array)| kind.replace(name, array));
     match kind.strip_prefix('*') {
+        Some("const RowWords") => vec!["const u64 22".to_string()],
         Some(pointer) => vec![pointer.to_string()],
         None => exported_type(&kind),
     }
