@@ -144,7 +144,7 @@ fn c_name(kind: &str) -> String {
 fn three_times_the_same_functions() {
     let source = text("crates/specksonne/src/lib.rt");
     let exported = rust_like(&source, "pub extern \"C\" fn ", &['\n', '{'], exported_type);
-    assert_eq!(exported.len(), 16);
+    assert_eq!(exported.len(), 17);
     let declared = text("rust/specksonne/src/ffi.rs");
     let declared = rust_like(&declared, "        pub fn ", &[';'], rust_type);
     assert_eq!(declared, exported);
