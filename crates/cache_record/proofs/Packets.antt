@@ -104,7 +104,7 @@ module _ (answer : Call) {M : Type 1} (𝓤 : URA M) where
   abbrev by-value : Clauses 𝓤 g.ended
   by-value κs a = record { ghost = Unit {0}; requires = λ _. emp 𝓤; ensures = λ _ r _. fact 𝓤 (r ≡ answer (a .1 .1 .0) (now (a .0)) (now (a .1 .0)) (now (a .1 .1 .1 .0))) }
 
-  abbrev in-place : Clauses 𝓤 f.ended
+  abbrev pub in-place : Clauses 𝓤 f.ended
   in-place κs a = record {
     ghost = Unit {0};
     requires = λ _. emp 𝓤;
