@@ -41,8 +41,8 @@ use Rattle.spd_cache.specs.declared.Cache.{Cache}
 use Rattle.gateway.specs.declared.Answered.{Answered}
 use Rattle.spd_cache.proofs.Cache as T
 use Rattle.spd_cache.proofs.Cache.Laws as T′
-use Rattle.gateway.proofs.Verdict as Vd
-use Rattle.gateway.proofs.Verdict.Laws as Vd′
+use Rattle.verdicts.proofs.Verdict as Vd
+use Rattle.verdicts.proofs.Verdict.Laws as Vd′
 use Rattle.gateway.proofs.Answered as L
 use Rattle.gateway.proofs.Answered.Laws as L′
 use Rattle.gateway.proofs.outbound as g

@@ -5,11 +5,11 @@ ghost use Rattle.sad.specs.Pairs.{pairs};
 ghost use Rattle.spd.specs.Spd.{rowsOf, addressOf};
 ghost use Rattle.spd_cache.specs.Cache.{lookedUp};
 ghost use Rattle.gateway.specs.Cached.{outboundCached, inboundCached};
-use gateway::Verdict;
 use policy::Action;
 use selectors::Direction;
 use selectors::Selectors;
 use spd_cache::Cache;
+use verdicts::Verdict;
 
 pub fn lookup(cache: &mut Cache, rows: &[u64], direction: Direction, selectors: Selectors) -> Action
     ensures { λ r. ⌜ (r ≡ lookedUp (now (cache .entry)) (now (rows .entry)) direction (combination selectors) .action) × (now (cache .exit) ≡ lookedUp (now (cache .entry)) (now (rows .entry)) direction (combination selectors) .cache) ⌝ }
