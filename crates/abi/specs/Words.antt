@@ -11,6 +11,7 @@ use Rattle.selectors.specs.declared.Value.{Value}
 use Rattle.packet.specs.declared.Reading.{Reading}
 use Rattle.packet.specs.declared.Reading.the-variants.{Readable, Unreadable}
 use Rattle.packet.specs.Read.{triggerOf}
+use Rattle.policy.specs.Words.{selectorWords}
 use Rattle.policy.specs.declared.Action.{Action}
 use Rattle.policy.specs.declared.Action.the-variants.{Discard, Bypass, Protect}
 use Rattle.policy.specs.declared.Found.{Found}
@@ -35,11 +36,6 @@ selectorsFrom ws =
       «local_port» = valueFrom ws 6 7;
       «remote_port» = valueFrom ws 8 9;
     }
-
-unfoldable pub selectorWords : Selectors → List ℕ
-selectorWords s =
-    s .local .upper ∷ s .local .lower ∷ s .remote .upper ∷ s .remote .lower ∷ s .protocol .upper ∷ s .protocol .lower
-    ∷ s .«local_port» .upper ∷ s .«local_port» .lower ∷ s .«remote_port» .upper ∷ s .«remote_port» .lower ∷ []
 
 -- A pair's five ranges are twenty words: for each field the low end and the high end.
 abbrev pub endsOf : ℕ → ℕ → ℕ → ℕ → Ends

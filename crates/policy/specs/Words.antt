@@ -7,6 +7,8 @@ use lib.Dec.{eqb}
 use lib.ListN.{length, getD}
 use Rattle.selectors.specs.Range.{Range}
 use Rattle.selectors.specs.Ranges.{fromTo}
+use Rattle.selectors.specs.Value.{number}
+use Rattle.selectors.specs.declared.Selectors.{Selectors}
 use Rattle.selectors.specs.declared.Value.{Value}
 use Rattle.selectors.specs.declared.Direction.the-variants.{Out, In}
 use Rattle.policy.specs.declared.Action.{Action}
@@ -53,3 +55,13 @@ rowsFrom ws i (suc n) = rowAt ws (i * rowWords) ∷ rowsFrom ws (suc i) n
 -- The rows of a list of words: as many as are there whole; a rest shorter than a row is no row.
 abbrev pub policyRows : List ℕ → List PolicyRow
 policyRows ws = rowsFrom ws 0 (length ws / rowWords)
+
+-- Five selectors are ten words, and ten words five values.
+unfoldable pub selectorWords : Selectors → List ℕ
+selectorWords s =
+    s .local .upper ∷ s .local .lower ∷ s .remote .upper ∷ s .remote .lower ∷ s .protocol .upper ∷ s .protocol .lower
+    ∷ s .«local_port» .upper ∷ s .«local_port» .lower ∷ s .«remote_port» .upper ∷ s .«remote_port» .lower ∷ []
+
+abbrev pub valuesOf : List ℕ → List ℕ
+valuesOf ws =
+    number (valueAt ws 0) ∷ number (valueAt ws 2) ∷ number (valueAt ws 4) ∷ number (valueAt ws 6) ∷ number (valueAt ws 8) ∷ []

@@ -11,13 +11,15 @@ use borrow.Author.Tests.{ne-eqb}
 use Rattle.selectors.specs.Range.{contains}
 use Rattle.selectors.specs.Ranges.{fromTo}
 use Rattle.selectors.specs.declared.Direction.{Direction}
+use Rattle.selectors.specs.Value.{combination}
+use Rattle.selectors.specs.declared.Selectors.{Selectors}
 use Rattle.selectors.specs.declared.Value.{Value}
 use Rattle.policy.specs.Policy.{PolicyRow, matches, orderedSearch, matchFrom}
 use Rattle.policy.specs.declared.Found.{Found}
 use Rattle.policy.specs.declared.Found.the-variants.{Row, Nothing}
 use Rattle.policy.specs.declared.Action.{Action}
 use Rattle.policy.specs.declared.Action.the-variants.{Discard, Bypass, Protect}
-use Rattle.policy.specs.Words.{actionOf, actionWord, valueAt, rangeAt, rowAt, rowsFrom, rowWords}
+use Rattle.policy.specs.Words.{actionOf, actionWord, valueAt, rangeAt, rowAt, rowsFrom, rowWords, selectorWords, valuesOf}
 
 -- Actions and words are the same thing twice.
 pub action-word : (n : ℕ) → actionWord (actionOf n) ≡ n
@@ -96,3 +98,8 @@ module _ (d : Direction) (ws : List ℕ) (vs : List ℕ) where
           → (matchFrom (suc i) d (rowsFrom ws (suc i) n) vs ≡ Row j → j < suc i + n) → j < i + suc n
       by true h ih = let k : i ≡ j = row-place i j (rw h at e) in omega arith
       by false h ih = omega (arith, ih (rw h at e))
+
+-- The words of selectors are their values.
+pub selector-values : (s : Selectors) → valuesOf (selectorWords s) ≡ combination s
+unfolding valueAt selectorWords
+selector-values s = refl

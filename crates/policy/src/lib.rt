@@ -6,7 +6,7 @@ ghost use Rattle.selectors.specs.Value.{number, combination};
 ghost use Rattle.selectors.specs.Range.{contains};
 ghost use Rattle.normal_form.specs.Search.{holds};
 ghost use Rattle.policy.specs.Policy.{appliesTo, matches, matchFrom, orderedSearch};
-ghost use Rattle.policy.specs.Words.{directionOf, actionOf, valueAt, rangeAt, rangesAt, rowAt, policyRows};
+ghost use Rattle.policy.specs.Words.{directionOf, actionOf, valueAt, rangeAt, rangesAt, rowAt, policyRows, selectorWords, valuesOf};
 use selectors::AddressRange;
 use selectors::Direction;
 use selectors::PortRange;
@@ -114,35 +114,63 @@ fn port_holds(rows: &[u64], at: usize, value: Value) -> bool
     PortRange { low, high }.holds(value)
 }
 
-// Whether the five ranges from a word on all hold the values.
-fn ranges_hold(rows: &[u64], at: usize, selectors: Selectors) -> bool
-    requires { ⌜ at + 20 ≤ length (now rows) ⌝ }
-    ensures { λ r. ⌜ r ≡ holds (rangesAt (now (rows .entry)) at) (combination selectors) ⌝ }
+// Five values as words, two for each, the upper first: lent to the test of each row, they are not copied.
+pub fn selector_words(selectors: Selectors) -> [u64; 10]
+    ensures { λ r. ⌜ r ≡ selectorWords selectors ⌝ }
 {
-    if !address_holds(rows, at, selectors.local) {
+    [
+        selectors.local.upper,
+        selectors.local.lower,
+        selectors.remote.upper,
+        selectors.remote.lower,
+        selectors.protocol.upper,
+        selectors.protocol.lower,
+        selectors.local_port.upper,
+        selectors.local_port.lower,
+        selectors.remote_port.upper,
+        selectors.remote_port.lower,
+    ]
+}
+
+fn selector_at(values: &[u64; 10], at: usize) -> Value
+    requires { ⌜ at + 2 ≤ 10 ⌝ }
+    ensures { λ r. ⌜ r ≡ valueAt (now (values .entry)) at ⌝ }
+{
+    Value {
+        upper: values[at],
+        lower: values[at + 1],
+    }
+}
+
+// Whether the five ranges from a word on all hold the values.
+fn ranges_hold(rows: &[u64], at: usize, values: &[u64; 10]) -> bool
+    requires { ⌜ at + 20 ≤ length (now rows) ⌝ }
+    ensures { λ r. ⌜ r ≡ holds (rangesAt (now (rows .entry)) at) (valuesOf (now (values .entry))) ⌝ }
+{
+    if !address_holds(rows, at, selector_at(values, 0)) {
         return false;
     }
-    if !address_holds(rows, at + 4, selectors.remote) {
+    if !address_holds(rows, at + 4, selector_at(values, 2)) {
         return false;
     }
-    if !protocol_holds(rows, at + 8, selectors.protocol) {
+    if !protocol_holds(rows, at + 8, selector_at(values, 4)) {
         return false;
     }
-    if !port_holds(rows, at + 12, selectors.local_port) {
+    if !port_holds(rows, at + 12, selector_at(values, 6)) {
         return false;
     }
-    port_holds(rows, at + 16, selectors.remote_port)
+    port_holds(rows, at + 16, selector_at(values, 8))
 }
 
 // Whether the row at a word is for the direction and holds the values.
-fn row_matches(rows: &[u64], at: usize, direction: Direction, selectors: Selectors) -> bool
+fn row_matches(rows: &[u64], at: usize, direction: Direction, values: &[u64; 10]) -> bool
     requires { ⌜ at + 22 ≤ length (now rows) ⌝ }
-    ensures { λ r. ⌜ r ≡ matches direction (rowAt (now (rows .entry)) at) (combination selectors) ⌝ }
+    ensures { λ r. ⌜ r ≡ matches direction (rowAt (now (rows .entry)) at) (valuesOf (now (values .entry))) ⌝ }
 {
     if !direction_of(rows[at]).applies_to(direction) {
         return false;
     }
-    ranges_hold(rows, at + 2, selectors)
+    ranges_hold(rows, at + 2, values)
 }
 
 // The first row for the direction that holds the values.
@@ -154,10 +182,11 @@ pub enum Found {
 pub fn first_match(rows: &[u64], direction: Direction, selectors: Selectors) -> Found
     ensures { λ r. ⌜ r ≡ matchFrom 0 direction (policyRows (now (rows .entry))) (combination selectors) ⌝ }
 {
+    let values = selector_words(selectors);
     let count = rows.len() / ROW_WORDS;
     let mut row: usize = 0;
     while row < count {
-        if row_matches(rows, row * ROW_WORDS, direction, selectors) {
+        if row_matches(rows, row * ROW_WORDS, direction, &values) {
             return Found::Row(row);
         }
         row += 1;

@@ -6,7 +6,7 @@ use mathlib.Core.Path.{_≡_, refl, ap}
 use mathlib.Core.Bool.{Bool, true, false, cond, _&&_, or-false}
 use mathlib.Core.List.{List, _∷_}
 use mathlib.Core.Option.{Option, none, some}
-use lib.Dec.{ltb, leb}
+use lib.Dec.{ltb, leb, eqb}
 use lib.Seq.{paste}
 use lib.ListN.{length, getD, set}
 use borrow.Author.Tests.{lt-ltb, le-ltb, le-leb, lt-leb, eq-eqb, ne-eqb}
@@ -84,6 +84,16 @@ best-cons number vs b q qs = refl
 
 -- One more place of the search for the best pair, and its end.
 module _ (ws : List ℕ) (number : ℕ) (vs : List ℕ) (best i : ℕ) where
+  -- A place without a live pair of that number changes nothing.
+  pub passed-over : (liveAt ws i && eqb (pairAt ws i .number) number) ≡ false → betterOf ws number vs best i ≡ best
+  unfolding betterOf wanted
+  passed-over e = by (liveAt ws i) (eqb (pairAt ws i .number) number) e
+    where
+      by : (l b : Bool) → (l && b) ≡ false → cond ((l && (b && holds (pairAt ws i .ranges) vs)) && beats (pairAt ws i) (chosen ws best)) i best ≡ best
+      by false b e = refl
+      by true false e = refl
+      by true true e = let z : _≡_ {A = ℕ} 0 1 = cc in omega arith
+
   pub best-next : i < placeCount
       → bestOf number vs (chosen ws best) (pairsFrom ws i (placeCount - i))
       ≡ bestOf number vs (chosen ws (betterOf ws number vs best i)) (pairsFrom ws (i + 1) (placeCount - (i + 1)))

@@ -3,6 +3,7 @@ ghost use mathlib.Core.Path.{_≡_};
 ghost use mathlib.Core.Bool.{_&&_};
 ghost use Prim.Native.Nat.{_+_, _*_, _≤_, _<_};
 ghost use mathlib.Core.Option.{none};
+ghost use lib.Dec.{eqb};
 ghost use lib.ListN.{length};
 ghost use lib.Seq.{paste};
 ghost use Rattle.selectors.specs.Range.{contains, addressSize, protocolSize, portSize};
@@ -252,13 +253,29 @@ fn better(
     best
 }
 
-// The place of the best pair; 64 where there is none.
+// Whether a place has a live pair with that number.
+fn is_numbered(table: &[u64; 1536], place: usize, number: u64) -> bool
+    requires { ⌜ place < 64 ⌝ }
+    ensures { λ r. ⌜ r ≡ liveAt (now (table .entry)) place && eqb (pairAt (now (table .entry)) place .number) number ⌝ }
+{
+    let at = place * PLACE_WORDS;
+    if !is_ipsec(table[at]) {
+        return false;
+    }
+    table[at + 3] == number
+}
+
+// The place of the best pair; 64 where there is none. Most places are passed over before the values are handed on.
 fn best_place(table: &[u64; 1536], number: u64, selectors: Selectors) -> usize
     ensures { λ r. ⌜ chosen (now (table .entry)) r ≡ bestOf number (combination selectors) none (pairs (now (table .entry))) ⌝ }
 {
     let mut best: usize = PLACES;
     let mut place: usize = 0;
     while place < PLACES {
+        if !is_numbered(table, place, number) {
+            place += 1;
+            continue;
+        }
         best = better(table, best, place, number, selectors);
         place += 1;
     }

@@ -7,15 +7,25 @@ use borrow.Author.Needs.{needs}
 use Rattle.policy.proofs.ranges_hold.Statement.{statement}
 use Rattle.policy.proofs.ranges_hold.Tie as tie
 
+selector-at-requires : tie.Need-selector-at-requires
+selector-at-requires c κs = search needs
+
 address-holds-requires : tie.Need-address-holds-requires
 address-holds-requires c κs = search needs
 
 returns : tie.Need-returns
 unfolding holds
-returns c = rw (sym (c .before .address-holds .ensures) ∙ not-true _ (c .if1 .taken))
+returns c =
+    rw (
+      ← (c .before .before .selector-at .ensures),
+      sym (c .before .address-holds .ensures) ∙ not-true _ (c .if1 .taken),
+    )
 
 add-address-holds : tie.Need-add-address-holds
 add-address-holds c = search needs
+
+selector-at-requires-2 : tie.Need-selector-at-requires-2
+selector-at-requires-2 c κs = search needs
 
 address-holds-requires-2 : tie.Need-address-holds-requires-2
 address-holds-requires-2 c κs = search needs
@@ -24,12 +34,17 @@ returns-2 : tie.Need-returns-2
 unfolding holds
 returns-2 c =
     rw (
-      sym (c .before .before .before .address-holds .ensures) ∙ not-false _ (c .before .before .if1 .left),
+      ← (c .before .before .before .before .before .selector-at .ensures),
+      sym (c .before .before .before .before .address-holds .ensures) ∙ not-false _ (c .before .before .before .if1 .left),
+      ← (c .before .before .selector-at2 .ensures),
       sym (c .before .address-holds2 .ensures) ∙ not-true _ (c .if2 .taken),
     )
 
 add-protocol-holds : tie.Need-add-protocol-holds
 add-protocol-holds c = search needs
+
+selector-at-requires-3 : tie.Need-selector-at-requires-3
+selector-at-requires-3 c κs = search needs
 
 protocol-holds-requires : tie.Need-protocol-holds-requires
 protocol-holds-requires c κs = search needs
@@ -38,13 +53,19 @@ returns-3 : tie.Need-returns-3
 unfolding holds
 returns-3 c =
     rw (
-      sym (c .before .before .before .before .before .address-holds .ensures) ∙ not-false _ (c .before .before .before .before .if1 .left),
-      sym (c .before .before .before .address-holds2 .ensures) ∙ not-false _ (c .before .before .if2 .left),
+      ← (c .before .before .before .before .before .before .before .before .selector-at .ensures),
+      sym (c .before .before .before .before .before .before .before .address-holds .ensures) ∙ not-false _ (c .before .before .before .before .before .before .if1 .left),
+      ← (c .before .before .before .before .before .selector-at2 .ensures),
+      sym (c .before .before .before .before .address-holds2 .ensures) ∙ not-false _ (c .before .before .before .if2 .left),
+      ← (c .before .before .selector-at3 .ensures),
       sym (c .before .protocol-holds .ensures) ∙ not-true _ (c .if3 .taken),
     )
 
 add-port-holds : tie.Need-add-port-holds
 add-port-holds c = search needs
+
+selector-at-requires-4 : tie.Need-selector-at-requires-4
+selector-at-requires-4 c κs = search needs
 
 port-holds-requires : tie.Need-port-holds-requires
 port-holds-requires c κs = search needs
@@ -53,14 +74,21 @@ returns-4 : tie.Need-returns-4
 unfolding holds
 returns-4 c =
     rw (
-      sym (c .before .before .before .before .before .before .before .address-holds .ensures) ∙ not-false _ (c .before .before .before .before .before .before .if1 .left),
-      sym (c .before .before .before .before .before .address-holds2 .ensures) ∙ not-false _ (c .before .before .before .before .if2 .left),
-      sym (c .before .before .before .protocol-holds .ensures) ∙ not-false _ (c .before .before .if3 .left),
+      ← (c .before .before .before .before .before .before .before .before .before .before .before .selector-at .ensures),
+      sym (c .before .before .before .before .before .before .before .before .before .before .address-holds .ensures) ∙ not-false _ (c .before .before .before .before .before .before .before .before .before .if1 .left),
+      ← (c .before .before .before .before .before .before .before .before .selector-at2 .ensures),
+      sym (c .before .before .before .before .before .before .before .address-holds2 .ensures) ∙ not-false _ (c .before .before .before .before .before .before .if2 .left),
+      ← (c .before .before .before .before .before .selector-at3 .ensures),
+      sym (c .before .before .before .before .protocol-holds .ensures) ∙ not-false _ (c .before .before .before .if3 .left),
+      ← (c .before .before .selector-at4 .ensures),
       sym (c .before .port-holds .ensures) ∙ not-true _ (c .if4 .taken),
     )
 
 add-port-holds-2 : tie.Need-add-port-holds-2
 add-port-holds-2 c = search needs
+
+selector-at-requires-5 : tie.Need-selector-at-requires-5
+selector-at-requires-5 c κs = search needs
 
 port-holds-requires-2 : tie.Need-port-holds-requires-2
 port-holds-requires-2 c κs = search needs
@@ -69,10 +97,15 @@ returns-5 : tie.Need-returns-5
 unfolding holds
 returns-5 c =
     rw (
-      sym (c .before .before .before .before .before .before .before .before .address-holds .ensures) ∙ not-false _ (c .before .before .before .before .before .before .before .if1 .left),
-      sym (c .before .before .before .before .before .before .address-holds2 .ensures) ∙ not-false _ (c .before .before .before .before .before .if2 .left),
-      sym (c .before .before .before .before .protocol-holds .ensures) ∙ not-false _ (c .before .before .before .if3 .left),
-      sym (c .before .before .port-holds .ensures) ∙ not-false _ (c .before .if4 .left),
+      ← (c .before .before .before .before .before .before .before .before .before .before .before .before .before .selector-at .ensures),
+      sym (c .before .before .before .before .before .before .before .before .before .before .before .before .address-holds .ensures) ∙ not-false _ (c .before .before .before .before .before .before .before .before .before .before .before .if1 .left),
+      ← (c .before .before .before .before .before .before .before .before .before .before .selector-at2 .ensures),
+      sym (c .before .before .before .before .before .before .before .before .before .address-holds2 .ensures) ∙ not-false _ (c .before .before .before .before .before .before .before .before .if2 .left),
+      ← (c .before .before .before .before .before .before .before .selector-at3 .ensures),
+      sym (c .before .before .before .before .before .before .protocol-holds .ensures) ∙ not-false _ (c .before .before .before .before .before .if3 .left),
+      ← (c .before .before .before .before .selector-at4 .ensures),
+      sym (c .before .before .before .port-holds .ensures) ∙ not-false _ (c .before .before .if4 .left),
+      ← (c .before .selector-at5 .ensures),
       and-true,
     ) (c .port-holds2 .ensures)
 
@@ -80,17 +113,22 @@ pub ranges-hold-spec : {M : Type 1} → statement M
 ranges-hold-spec =
     tie.close
     (tie.spec
+    selector-at-requires
     address-holds-requires
     returns
     add-address-holds
+    selector-at-requires-2
     address-holds-requires-2
     returns-2
     add-protocol-holds
+    selector-at-requires-3
     protocol-holds-requires
     returns-3
     add-port-holds
+    selector-at-requires-4
     port-holds-requires
     returns-4
     add-port-holds-2
+    selector-at-requires-5
     port-holds-requires-2
     returns-5)

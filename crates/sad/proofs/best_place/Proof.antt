@@ -1,8 +1,9 @@
 -- `sad::best_place` meets its contract: the loop's invariant: the best of all pairs is the best of `best` and the pairs of the places from `place` on. Assumes nothing.
 use denote.Ref.{now}
-use Rattle.sad.specs.PairsLaws.{best-next, best-ended}
+use Rattle.sad.specs.PairsLaws.{best-next, best-ended, passed-over}
 use Rattle.sad.specs.Pairs.{pairs, pairsFrom, bestOf, chosen}
 use Rattle.selectors.specs.Value.{combination}
+use borrow.Author.Tests.{not-true}
 use mathlib.Core.Option.{none}
 use mathlib.Core.Path.{_≡_, refl, sym, _∙_}
 use Prim.Native.Nat.{_≤_, _-_}
@@ -20,8 +21,8 @@ loop-holds : tie.Need-loop-holds Inv-loop μ-loop
 unfolding chosen
 loop-holds c = (search needs, refl)
 
-better-requires : tie.Need-better-requires Inv-loop μ-loop
-better-requires c κs = search needs
+is-numbered-requires : tie.Need-is-numbered-requires Inv-loop μ-loop
+is-numbered-requires c κs = search needs
 
 add-place : tie.Need-add-place Inv-loop μ-loop
 add-place c = search needs
@@ -31,8 +32,25 @@ loop-less c = search needs
 
 loop-again : tie.Need-loop-again Inv-loop μ-loop
 loop-again c =
-    let a = c .before .before .before .args in
-    (search needs, c .before .before .loop .inv .1 ∙ best-next (now (a .table)) (a .number) (combination (a .selectors)) (c .before .before .loop .best) (c .before .before .loop .place) (search needs) ∙ rw (← (c .better .ensures)))
+    let a = c .before .before .before .before .args in
+    let l = c .before .before .before .loop in
+    (search needs, l .inv .1 ∙ best-next (now (a .table)) (a .number) (combination (a .selectors)) (l .best) (l .place) (search needs)
+    ∙ rw (passed-over (now (a .table)) (a .number) (combination (a .selectors)) (l .best) (l .place) (sym (c .before .is-numbered .ensures) ∙ not-true _ (c .if1 .taken))))
+
+better-requires : tie.Need-better-requires Inv-loop μ-loop
+better-requires c κs = search needs
+
+add-place-2 : tie.Need-add-place-2 Inv-loop μ-loop
+add-place-2 c = search needs
+
+loop-less-2 : tie.Need-loop-less-2 Inv-loop μ-loop
+loop-less-2 c = search needs
+
+loop-again-2 : tie.Need-loop-again-2 Inv-loop μ-loop
+loop-again-2 c =
+    let a = c .before .before .before .before .before .args in
+    let l = c .before .before .before .before .loop in
+    (search needs, l .inv .1 ∙ best-next (now (a .table)) (a .number) (combination (a .selectors)) (l .best) (l .place) (search needs) ∙ rw (← (c .better .ensures)))
 
 returns : tie.Need-returns Inv-loop μ-loop
 returns c =
@@ -42,4 +60,16 @@ returns c =
 pub best-place-spec : {M : Type 1} → statement M
 best-place-spec =
     tie.close
-    (tie.spec Inv-loop μ-loop loop-holds better-requires add-place loop-less loop-again returns)
+    (tie.spec
+    Inv-loop
+    μ-loop
+    loop-holds
+    is-numbered-requires
+    add-place
+    loop-less
+    loop-again
+    better-requires
+    add-place-2
+    loop-less-2
+    loop-again-2
+    returns)
