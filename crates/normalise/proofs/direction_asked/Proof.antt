@@ -1,11 +1,15 @@
 -- `normalise::direction_asked` meets its contract: by the two words. Assumes nothing.
-use mathlib.Core.Path.{_≡_}
-use mathlib.Core.Bool.{true, false}
+use mathlib.Core.Path.{_≡_, sym, _∙_}
+use mathlib.Core.Bool.{false}
 use Rattle.policy_text.specs.Bytes.{sameBytes}
-use Rattle.policy_text.specs.Format.{outWord, inWord}
+use Rattle.policy_text.specs.Format.{outWord}
 use borrow.Author.Needs.{needs}
 use Rattle.normalise.proofs.direction_asked.Statement.{statement}
 use Rattle.normalise.proofs.direction_asked.Tie as tie
+
+-- What the first test said, where it failed.
+not-out : (c : tie.Else1) → sameBytes (c .before .before .before .before .args .word .now) outWord ≡ false
+not-out c = sym (c .before .same .ensures) ∙ c .if1 .left
 
 slice-aggregate-same : tie.Need-slice-aggregate-same
 slice-aggregate-same c = search needs
@@ -14,10 +18,7 @@ same-requires : tie.Need-same-requires
 same-requires c κs = search needs
 
 returns : tie.Need-returns
-returns c =
-    let s = c .before .before .before .before .args .word .now in
-    let o : sameBytes s outWord ≡ true = cc in
-    rw o
+returns c = rw (sym (c .before .same .ensures) ∙ c .if1 .taken)
 
 slice-aggregate-same-2 : tie.Need-slice-aggregate-same-2
 slice-aggregate-same-2 c = search needs
@@ -26,18 +27,10 @@ same-requires-2 : tie.Need-same-requires-2
 same-requires-2 c κs = search needs
 
 returns-2 : tie.Need-returns-2
-returns-2 c =
-    let s = c .before .before .before .before .before .before .before .args .word .now in
-    let o : sameBytes s outWord ≡ false = cc in
-    let i : sameBytes s inWord ≡ true = cc in
-    rw (o, i)
+returns-2 c = rw (not-out (c .before .before .before), sym (c .before .same2 .ensures) ∙ c .if2 .taken)
 
 returns-3 : tie.Need-returns-3
-returns-3 c =
-    let s = c .before .before .before .before .before .before .before .args .word .now in
-    let o : sameBytes s outWord ≡ false = cc in
-    let i : sameBytes s inWord ≡ false = cc in
-    rw (o, i)
+returns-3 c = rw (not-out (c .before .before .before), sym (c .before .same2 .ensures) ∙ c .if2 .left)
 
 pub direction-asked-spec : {M : Type 1} → statement M
 direction-asked-spec =
