@@ -2,7 +2,7 @@
 ghost use mathlib.Core.Path.{_≡_};
 ghost use lib.ListN.{length};
 ghost use Rattle.packet.specs.Read.{triggerOf};
-ghost use Rattle.abi.specs.Words.{directionFrom, endsOf, selectorsFrom, selectorWords, pairFrom, actionKind, actionNumber, isFound, placeFound, triggerPart};
+ghost use Rattle.abi.specs.Words.{directionFrom, endsOf, selectorsFrom, pairFrom, actionKind, actionNumber, isFound, placeFound, triggerPart};
 use packet::Packet;
 use policy::Action;
 use policy::Found;
@@ -46,23 +46,6 @@ pub fn selectors_from(words: &[u64; 10]) -> Selectors
             lower: words[9],
         },
     }
-}
-
-pub fn selector_words(selectors: Selectors) -> [u64; 10]
-    ensures { λ r. ⌜ r ≡ selectorWords selectors ⌝ }
-{
-    [
-        selectors.local.upper,
-        selectors.local.lower,
-        selectors.remote.upper,
-        selectors.remote.lower,
-        selectors.protocol.upper,
-        selectors.protocol.lower,
-        selectors.local_port.upper,
-        selectors.local_port.lower,
-        selectors.remote_port.upper,
-        selectors.remote_port.lower,
-    ]
 }
 
 fn ends(a: u64, b: u64, c: u64, d: u64) -> Ends

@@ -90,7 +90,7 @@ pub extern "C" fn specksonne_read(direction: u64, bytes: &[u8], selectors: &mut 
     let reading = packet::read(bytes, abi::direction_from(direction));
     match reading {
         Reading::Readable(packet) => {
-            *selectors = abi::selector_words(packet.selectors);
+            *selectors = policy::selector_words(packet.selectors);
             true
         }
         Reading::Unreadable => {

@@ -16,11 +16,13 @@ pub struct Case {
 
 pub fn all() -> Vec<Case> {
     let mut cases = vec![read()];
-    for rows in [8, 64, 250] {
-        cases.push(packets(&format!("outbound, cache hit, {rows} rows"), rows, 1));
-        cases.push(packets(&format!("outbound, mostly misses, {rows} rows"), rows, rows));
+    for (rows, flows) in [(250, 1), (32, 32), (250, 1_000)] {
+        cases.push(bypasses(rows, flows));
     }
     cases.push(discards(250));
+    for pairs in [1, 64] {
+        cases.push(protects(pairs));
+    }
     cases.push(from_sa());
     for rows in [8, 64, 250] {
         cases.push(normalises(rows));
@@ -66,14 +68,33 @@ fn read() -> Case {
     }
 }
 
-/// Packets going out, to `spread` ports by turns.
-fn packets(name: &str, rows: usize, spread: usize) -> Case {
-    let (mut proved, mut other) = gateways(&policy(rows));
-    let packets: Vec<Vec<u8>> = (0..spread).map(udp).collect();
+/// Rows that let packets to one remote port each pass: no two are neighbours, so that the normal form
+/// has as many.
+fn bypass_policy(rows: usize) -> Vec<u8> {
+    let row = |n: usize| format!("out\tbypass\t10.0.0.0/255.0.0.0\tany\t17\tany\t{}\n", 2 * n);
+    format!("policy\t1\n{}", (0..rows).map(row).collect::<String>()).into_bytes()
+}
+
+/// Packets of so many flows by turns, each passed by one of the rows. The cache has 32 slots.
+fn bypasses(rows: usize, flows: usize) -> Case {
+    let packets: Vec<Vec<u8>> = (0..flows).map(|flow| udp(2 * (flow % rows))).collect();
+    outbound(format!("outbound, {flows} flows, {rows} rows"), &bypass_policy(rows), packets, 0)
+}
+
+/// A packet of a flow that the last of so many pairs protects, each of another number.
+fn protects(pairs: u32) -> Case {
+    let row = format!("policy\t1\nout\tprotect-{pairs}\tany\tany\tany\tany\tany\n");
+    outbound(format!("outbound, protected, {pairs} pairs"), row.as_bytes(), vec![udp(7)], pairs)
+}
+
+/// Packets going out by turns, through gateways with so many pairs, numbered from 1 on.
+fn outbound(name: String, policy: &[u8], packets: Vec<Vec<u8>>, pairs: u32) -> Case {
+    let (mut proved, mut other) = gateways(policy);
+    add_pairs(&mut proved, &mut other, pairs, u64::from);
     let (one, two) = (packets.clone(), packets);
     let (mut n, mut m) = (0, 0);
     Case {
-        name: name.to_string(),
+        name,
         proved: Box::new(move || {
             n = (n + 1) % one.len();
             proved.outbound(&one[n]).number().into()
@@ -82,6 +103,24 @@ fn packets(name: &str, rows: usize, spread: usize) -> Case {
             m = (m + 1) % two.len();
             other.outbound(&two[m]).number().into()
         }),
+    }
+}
+
+/// Adds ESP pairs of inbound SPI 256 and on that hold everything.
+fn add_pairs(
+    proved: &mut specksonne::Gateway,
+    other: &mut reference::Gateway,
+    pairs: u32,
+    number: impl Fn(u32) -> u64,
+) {
+    for n in 0..pairs {
+        let (protocol, inbound_spi, outbound_spi, number) = (50, 256 + n, 256 + n, number(n + 1));
+        let ranges = specksonne::Ranges::ANY;
+        let pair = specksonne::Pair { protocol, inbound_spi, outbound_spi, number, ranges };
+        proved.add(&pair).expect("a sound pair");
+        let ranges = reference::FIELD_TOPS.map(|top| reference::Range::new(0, top));
+        let pair = reference::ProposedPair { protocol, inbound_spi, outbound_spi, number, ranges };
+        other.add_pair(&pair);
     }
 }
 
@@ -98,16 +137,7 @@ fn discards(rows: usize) -> Case {
 
 fn from_sa() -> Case {
     let (mut proved, mut other) = gateways(b"policy\t1\n");
-    for n in 0..64 {
-        let ranges = specksonne::Ranges::ANY;
-        let (inbound_spi, outbound_spi) = (256 + n, 256 + n);
-        let pair = specksonne::Pair { protocol: 50, inbound_spi, outbound_spi, number: 1, ranges };
-        proved.add(&pair).expect("a sound pair");
-        let ranges = reference::FIELD_TOPS.map(|top| reference::Range::new(0, top));
-        let pair =
-            reference::ProposedPair { protocol: 50, inbound_spi, outbound_spi, number: 1, ranges };
-        other.add_pair(&pair);
-    }
+    add_pairs(&mut proved, &mut other, 64, |_| 1);
     let (one, two) = (udp(1), udp(1));
     Case {
         name: "from an association, 64 pairs, the last".to_string(),

@@ -33,9 +33,11 @@ loop-less c = search needs
 loop-again : tie.Need-loop-again Inv-loop μ-loop
 loop-again c =
     let a = c .before .before .before .before .args in
-    let l = c .before .before .before .loop in
-    (search needs, l .inv .1 ∙ best-next (now (a .table)) (a .number) (combination (a .selectors)) (l .best) (l .place) (search needs)
-    ∙ rw (passed-over (now (a .table)) (a .number) (combination (a .selectors)) (l .best) (l .place) (sym (c .before .is-numbered .ensures) ∙ not-true _ (c .if1 .taken))))
+    let l = c .before .before .before .loop in (
+      search needs,
+      l .inv .1 ∙ best-next (now (a .table)) (a .number) (combination (a .selectors)) (l .best) (l .place) (search needs)
+          ∙ rw (passed-over (now (a .table)) (a .number) (combination (a .selectors)) (l .best) (l .place) (sym (c .before .is-numbered .ensures) ∙ not-true _ (c .if1 .taken))),
+    )
 
 better-requires : tie.Need-better-requires Inv-loop μ-loop
 better-requires c κs = search needs
