@@ -5,7 +5,7 @@ use specksonne::ffi::{self, CACHE_WORDS, POLICY_WORDS, ROW_WORDS, TABLE_WORDS};
 use std::fmt;
 use testkit::{icmp_error, ports, Ipv4, Prng};
 
-const MOST_BYTES: usize = 400;
+const MOST_BYTES: usize = 4096;
 const MOST_ROWS: usize = 24;
 
 /// How often each answer was given; the last place is for calls that give none.
@@ -238,6 +238,10 @@ impl Abuse {
         selectors.fill_with(|| word(&mut self.prng, kind));
         let (mut number, mut place) = (0, 0);
         let action = ffi::search(rows, direction, selectors, &mut number);
+        let mut of_records = 0;
+        let (records, _) = rows.as_chunks();
+        assert_eq!(ffi::search_records(records, direction, selectors, &mut of_records), action);
+        assert_eq!(of_records, number);
         let found = ffi::first_match(rows, direction, selectors, &mut place);
         assert!(action == 2 || action < 2 && number == 0);
         assert!(if found { place < (count / ROW_WORDS) as u64 } else { place == 0 && action == 0 });
@@ -272,7 +276,14 @@ impl Abuse {
             let any = [0, 0, 0, 9, 0, 0, 0, 9, 0, 0, 0, 255, 0, 0, 0, 65_536, 0, 0, 0, 65_536];
             *ranges = any;
         }
-        let table = array(self.table.lend(TABLE_WORDS, side));
+        let table: &mut [u64; TABLE_WORDS] = array(self.table.lend(TABLE_WORDS, side));
+        if self.prng.one_in(200) {
+            // Every place is taken.
+            for place in table.chunks_exact_mut(TABLE_WORDS / 64) {
+                place[0] = 50;
+                place[1] = 1 << 20;
+            }
+        }
         let live = ffi::is_live(table, protocol, spi_in);
         let answer = ffi::add(table, protocol, spi_in, spi_out, number, ranges);
         assert_eq!(ffi::is_live(table, protocol, spi_in), live || answer == 5);
@@ -415,11 +426,26 @@ fn packet(prng: &mut Prng) -> Vec<u8> {
     bytes
 }
 
+/// A policy file of more rows than are taken, or one whose normal form has more.
+fn long_policy_file(prng: &mut Prng) -> Vec<u8> {
+    if prng.one_in(2) {
+        return format!("policy\t1\n{}", "\n".repeat(257)).into_bytes();
+    }
+    let way = *prng.pick(&["out", "in", "both"]);
+    let one = |n: usize| format!("{way}\tbypass\t10.0.0.{}\tany\tany\tany\tany\n", 2 * n);
+    let other = |n: usize| format!("{way}\tprotect-1\tany\tany\tany\tany\t{}\n", 2 * n);
+    let rows: String = (0..20).map(one).chain((0..20).map(other)).collect();
+    format!("policy\t1\n{rows}").into_bytes()
+}
+
 /// Bytes at chance, or a short policy file that is mostly sound.
 fn policy_file(prng: &mut Prng) -> Vec<u8> {
     if prng.one_in(6) {
         let count = prng.below(100);
         return prng.bytes(count);
+    }
+    if prng.one_in(300) {
+        return long_policy_file(prng);
     }
     let mut text = "policy\t1\n".to_string();
     for _ in 0..prng.below(5) {

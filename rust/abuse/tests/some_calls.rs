@@ -7,10 +7,8 @@ fn two_hundred_thousand_calls() {
     let mut abuse = Abuse::new(7);
     abuse.run(200_000);
     println!("{}", abuse.counts);
-    // Every answer that short files and arbitrary words can reach.
-    for number in
-        [0, 1, 2, 3, 4, 5, 10, 11, 12, 13, 14, 15, 16, 17, 18, 20, 23, 24, 25, 26, 28, 29, 31]
-    {
+    // Every answer of document 01.
+    for number in (0..=5).chain(10..=18).chain(20..=29).chain([31]) {
         assert!(abuse.counts.answers[number] > 0, "{number} was never given");
     }
 }
