@@ -93,9 +93,8 @@ fn c_signatures(header: &str) -> Signatures {
     };
     let mut found = Signatures::new();
     for statement in without_comments(header).split(';') {
-        let Some((name, parameters)) =
-            between(statement, " specksonne_", ")").and_then(|(call, _)| call.split_once('('))
-        else {
+        let call = statement.split_once(" specksonne_").and_then(|(_, call)| call.rsplit_once(')'));
+        let Some((name, parameters)) = call.and_then(|(call, _)| call.split_once('(')) else {
             continue;
         };
         let result = statement.trim().split(' ').next().unwrap();
