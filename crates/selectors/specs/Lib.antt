@@ -3,3 +3,4 @@ pub mod RangeLaws
 pub mod Value
 pub mod ValueLaws
 pub mod Ranges
+pub mod BetweenLaws

@@ -12,7 +12,7 @@ use Rattle.selectors.specs.declared.Value.{Value}
 
 -- Two digits u and l of a base B: the upper ones decide the order, and the lower ones where the upper are the same.
 module _ (B : ℕ) where
-  upper-first : (u l u′ l′ : ℕ) → l < B → u < u′ → u * B + l < u′ * B + l′
+  pub upper-first : (u l u′ l′ : ℕ) → l < B → u < u′ → u * B + l < u′ * B + l′
   upper-first u l u′ l′ h g =
       let m : suc u * B ≤ u′ * B = mul-le-mul-right B g in
       omega (arith, suc-mul u B)

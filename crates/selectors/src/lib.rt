@@ -2,7 +2,7 @@
 ghost use mathlib.Core.Path.{_≡_};
 ghost use Prim.Native.Nat.{_+_, _-_, _^_, min};
 ghost use lib.Dec.{ltb, eqb};
-ghost use Rattle.selectors.specs.Range.{contains, inField, sameRange, full, opaque, addressSize, protocolSize, portSize};
+ghost use Rattle.selectors.specs.Range.{range, contains, inField, sameRange, full, opaque, addressSize, protocolSize, portSize};
 ghost use Rattle.selectors.specs.Value.{number};
 ghost use Rattle.selectors.specs.Ranges.{fromTo, addressRange, protocolRange, portRange, newAddressRange, newProtocolRange, newPortRange};
 
@@ -94,9 +94,25 @@ pub struct Selectors {
     pub remote_port: Value,
 }
 
+fn within(low: u64, high: u64, value: u64) -> bool
+    ensures { λ r. ⌜ r ≡ contains (range low high) value ⌝ }
+{
+    if value < low {
+        return false;
+    }
+    value <= high
+}
+
+// Ends with the same upper word, as all of IPv4's have, are told by their lower words.
 fn between(low: Value, high: Value, value: Value) -> bool
     ensures { λ r. ⌜ r ≡ contains (fromTo low high) (number value) ⌝ }
 {
+    if low.upper == high.upper {
+        if value.upper == low.upper {
+            return within(low.lower, high.lower, value.lower);
+        }
+        return false;
+    }
     if value.less(low) {
         return false;
     }
