@@ -19,6 +19,7 @@ pub fn outbound(
     ensures { λ r. ⌜ r ≡ outboundCached (cacheFrom (now (cache .entry))) (rowsOf (now (policy .entry)) Direction.Out) (pairs (now (table .entry))) (now (bytes .entry)) .verdict ⌝ }
     ensures { λ _. ⌜ now (cache .exit) ≡ cacheWords (outboundCached (cacheFrom (now (cache .entry))) (rowsOf (now (policy .entry)) Direction.Out) (pairs (now (table .entry))) (now (bytes .entry)) .cache) ⌝ }
 {
+    // As a slice the cache has its length in the proof, also where the packet is not readable.
     let lent: &[u64] = cache;
     let reading = packet::read(bytes, Direction::Out);
     let Reading::Readable(packet) = reading else {
@@ -40,6 +41,7 @@ pub fn inbound(
     ensures { λ r. ⌜ r ≡ inboundCached (cacheFrom (now (cache .entry))) (rowsOf (now (policy .entry)) Direction.In) (addressOf (now (policy .entry))) (pairs (now (table .entry))) (now (bytes .entry)) .verdict ⌝ }
     ensures { λ _. ⌜ now (cache .exit) ≡ cacheWords (inboundCached (cacheFrom (now (cache .entry))) (rowsOf (now (policy .entry)) Direction.In) (addressOf (now (policy .entry))) (pairs (now (table .entry))) (now (bytes .entry)) .cache) ⌝ }
 {
+    // As a slice the cache has its length in the proof, also where the packet is not readable.
     let lent: &[u64] = cache;
     let reading = packet::read(bytes, Direction::In);
     let Reading::Readable(packet) = reading else {

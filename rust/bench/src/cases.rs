@@ -27,7 +27,9 @@ pub fn all() -> Vec<Case> {
     for rows in [8, 64, 250] {
         cases.push(normalises(rows));
     }
-    cases.push(accepts(64));
+    for rows in [64, 250] {
+        cases.push(accepts(rows));
+    }
     cases
 }
 
