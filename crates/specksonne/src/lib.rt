@@ -282,9 +282,9 @@ pub extern "C" fn specksonne_outbound(
     ensures { λ _. ⌜ now (carries .exit) ≡ carried (outboundCached (cacheFrom (now (cache .entry))) (rowsOf (now (policy .entry)) Direction.Out) (pairs (now (table .entry))) (now (bytes .entry)) .verdict) ⌝ }
     ensures { λ _. ⌜ now (cache .exit) ≡ cacheWords (outboundCached (cacheFrom (now (cache .entry))) (rowsOf (now (policy .entry)) Direction.Out) (pairs (now (table .entry))) (now (bytes .entry)) .cache) ⌝ }
 {
-    let verdict = gateway_in_place::outbound(policy, table, cache, bytes);
-    *carries = answer_numbers::verdict_carries(verdict);
-    answer_numbers::verdict_number(verdict)
+    let going_out = gateway_in_place::outbound(policy, table, cache, bytes);
+    *carries = answer_numbers::verdict_carries(going_out);
+    answer_numbers::verdict_number(going_out)
 }
 
 // A packet coming in from outside (`gateway_in_place::inbound`).
@@ -300,9 +300,9 @@ pub extern "C" fn specksonne_inbound(
     ensures { λ _. ⌜ now (carries .exit) ≡ carried (inboundCached (cacheFrom (now (cache .entry))) (rowsOf (now (policy .entry)) Direction.In) (addressOf (now (policy .entry))) (pairs (now (table .entry))) (now (bytes .entry)) .verdict) ⌝ }
     ensures { λ _. ⌜ now (cache .exit) ≡ cacheWords (inboundCached (cacheFrom (now (cache .entry))) (rowsOf (now (policy .entry)) Direction.In) (addressOf (now (policy .entry))) (pairs (now (table .entry))) (now (bytes .entry)) .cache) ⌝ }
 {
-    let verdict = gateway_in_place::inbound(policy, table, cache, bytes);
-    *carries = answer_numbers::verdict_carries(verdict);
-    answer_numbers::verdict_number(verdict)
+    let coming_in = gateway_in_place::inbound(policy, table, cache, bytes);
+    *carries = answer_numbers::verdict_carries(coming_in);
+    answer_numbers::verdict_number(coming_in)
 }
 
 // A packet coming in from an association (`gateway::from_sa`).
