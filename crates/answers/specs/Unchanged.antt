@@ -32,7 +32,8 @@ use Rattle.policy_text.specs.Format.{Policy, refused, rows}
 use Rattle.normaliser.specs.Normalise.{normalised, bytesAfter, normalisedBytes, normalisedNumber}
 use Rattle.normaliser.specs.declared.Normalised.{Normalised}
 use Rattle.normaliser.specs.declared.Normalised.the-variants.{Printed, NotHeader, NotEnded, TooMany, BadRow, TooLarge, NoRoom}
-use Rattle.spd.specs.Spd.{addressOf, spdWords, emptyCaches, accepting, ifAccepted, spdAfter, cachesAfter, acceptanceNumber}
+use Rattle.spd.specs.Spd.{spdWords, emptyCaches, accepting, ifAccepted, spdAfter, cachesAfter, acceptanceNumber}
+use Rattle.spd_words.specs.Words.{addressOf}
 use Rattle.spd.specs.declared.Acceptance.{Acceptance}
 use Rattle.spd.specs.declared.Acceptance.the-variants.{Accepted, NotHeader as NoHeader, NotEnded as NoEnd, TooMany as OverRows, BadRow as Bad, TooLarge as OverForm}
 use Rattle.spd.specs.declared.Caches.{Caches}

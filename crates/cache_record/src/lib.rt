@@ -2,7 +2,7 @@
 ghost use mathlib.Core.Path.{_≡_};
 ghost use Rattle.selectors.specs.Value.{combination};
 ghost use Rattle.sad.specs.Pairs.{pairs};
-ghost use Rattle.spd.specs.Spd.{rowsOf, addressOf};
+ghost use Rattle.spd_words.specs.Words.{rowsOf, addressOf};
 ghost use Rattle.spd_cache.specs.Cache.{lookedUp};
 ghost use Rattle.gateway.specs.Cached.{outboundCached, inboundCached};
 use policy::Action;

@@ -11,16 +11,13 @@ ghost use Rattle.decorrelate.specs.Form.{FormOutcome};
 use layout::Laid;
 use layout::Point;
 use layout::ROOM_WORDS;
+use policy::LIMIT;
+use policy::POLICY_WORDS;
 use policy::ROW_WORDS;
 use prune::Pruned;
 use selectors::Direction;
 
-// The limit on the rows of a policy and of a normal form.
-pub const LIMIT: usize = 256;
-
-// The words of that many rows, and of the room that a normal form of that many asks for.
-pub const POLICY_WORDS: usize = LIMIT * ROW_WORDS;
-
+// The words of the room that a normal form asks for.
 pub const FORM_ROOM: usize = LIMIT * ROOM_WORDS;
 
 // The highest value of each field of IPv4, in two words.

@@ -2,7 +2,7 @@
 ghost use mathlib.Core.Path.{_≡_};
 ghost use Rattle.packet.specs.Read.{readTrigger};
 ghost use Rattle.sad.specs.Pairs.{pairs};
-ghost use Rattle.spd.specs.Spd.{rowsOf, addressOf};
+ghost use Rattle.spd_words.specs.Words.{rowsOf, addressOf};
 ghost use Rattle.verdicts.specs.Calls.{triggerRead, fromSaBy};
 ghost use Rattle.gateway.specs.Cached.{outboundCached, inboundCached};
 use own_ipsec::Own;
@@ -29,7 +29,7 @@ pub fn outbound(policy: &[u64; 11267], table: &[u64; 1536], cache: Cache, bytes:
         };
     };
     let selectors = packet.selectors;
-    let rows = spd::rows_of(policy, Direction::Out);
+    let rows = spd_words::rows_of(policy, Direction::Out);
     let looked = cache.lookup(rows, Direction::Out, selectors);
     let action = looked.action;
     let after = looked.cache;
@@ -50,11 +50,11 @@ pub fn inbound(policy: &[u64; 11267], table: &[u64; 1536], cache: Cache, bytes: 
             cache,
         };
     };
-    let own = own_ipsec::answer(spd::address_of(policy), table, bytes, packet);
+    let own = own_ipsec::answer(spd_words::address_of(policy), table, bytes, packet);
     if let Own::Answer(verdict) = own {
         return Answered { verdict, cache };
     }
-    let rows = spd::rows_of(policy, Direction::In);
+    let rows = spd_words::rows_of(policy, Direction::In);
     let looked = cache.lookup(rows, Direction::In, packet.selectors);
     let action = looked.action;
     let after = looked.cache;

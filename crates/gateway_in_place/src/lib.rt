@@ -1,7 +1,7 @@
 // The packet calls with the cache lent in place: what `gateway` answers and does to a cache by value, with no copy of it.
 ghost use mathlib.Core.Path.{_≡_};
 ghost use Rattle.sad.specs.Pairs.{pairs};
-ghost use Rattle.spd.specs.Spd.{rowsOf, addressOf};
+ghost use Rattle.spd_words.specs.Words.{rowsOf, addressOf};
 ghost use Rattle.cache_in_place.specs.Lent.{cacheFrom, cacheWords};
 ghost use Rattle.gateway.specs.Cached.{outboundCached, inboundCached};
 use own_ipsec::Own;
@@ -26,7 +26,7 @@ pub fn outbound(
         return Verdict::NotReadable;
     };
     let selectors = packet.selectors;
-    let rows = spd::rows_of(policy, Direction::Out);
+    let rows = spd_words::rows_of(policy, Direction::Out);
     let action = cache_in_place::lookup(cache, rows, Direction::Out, selectors);
     verdicts::outbound_action(table, selectors, action)
 }
@@ -47,11 +47,11 @@ pub fn inbound(
     let Reading::Readable(packet) = reading else {
         return Verdict::NotReadable;
     };
-    let own = own_ipsec::answer(spd::address_of(policy), table, bytes, packet);
+    let own = own_ipsec::answer(spd_words::address_of(policy), table, bytes, packet);
     if let Own::Answer(verdict) = own {
         return verdict;
     }
-    let rows = spd::rows_of(policy, Direction::In);
+    let rows = spd_words::rows_of(policy, Direction::In);
     let action = cache_in_place::lookup(cache, rows, Direction::In, packet.selectors);
     verdicts::inbound_action(action)
 }

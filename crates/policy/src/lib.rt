@@ -30,6 +30,11 @@ pub enum RowDirection {
 // The words of a row: its direction, its action, and for each of five fields low and high, of two words each.
 pub const ROW_WORDS: usize = 22;
 
+// The most rows that a policy and a normal form may have (document 01, 21 and 22), and their words.
+pub const LIMIT: usize = 256;
+
+pub const POLICY_WORDS: usize = LIMIT * ROW_WORDS;
+
 pub fn direction_of(word: u64) -> RowDirection
     ensures { λ r. ⌜ r ≡ directionOf word ⌝ }
 {

@@ -16,7 +16,8 @@ use Rattle.layout.specs.NormalRows.{bothWays}
 use Rattle.decorrelate.specs.Form.{form}
 use Rattle.spd_cache.specs.Cache.{slotCount}
 use Rattle.spd_cache.specs.SlotLaws.{replaced}
-use Rattle.spd.specs.Spd.{formLimit, accepting, ifAccepted}
+use Rattle.spd.specs.Spd.{accepting, ifAccepted}
+use Rattle.spd_words.specs.Words.{formLimit}
 use Rattle.sad.specs.declared.NewPair.{NewPair}
 use Rattle.sad.specs.declared.Outcome.{Outcome}
 use Rattle.sad.specs.declared.Outcome.the-variants.{Done, ReservedSpi, AlreadyLive, TableFull, BadPair, NothingToRemove}

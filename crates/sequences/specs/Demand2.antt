@@ -18,7 +18,7 @@ use Rattle.packet.specs.declared.Reading.the-variants.{Readable}
 use Rattle.policy.specs.declared.Action.the-variants.{Bypass, Protect}
 use Rattle.policy.specs.Policy.{orderedSearch}
 use Rattle.spd_cache.specs.Cache.{lookedUp}
-use Rattle.spd.specs.Spd.{rowsOf}
+use Rattle.spd_words.specs.Words.{rowsOf}
 use Rattle.sad.specs.declared.PairFound.the-variants.{Found, Nothing}
 use Rattle.sad.specs.Pairs.{pairs, live, fitting, pairFor}
 use Rattle.verdicts.specs.Calls.{shows, outboundBy, inboundBy, fromSaBy}

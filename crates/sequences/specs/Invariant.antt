@@ -26,7 +26,8 @@ use Rattle.spd_cache.specs.SlotLaws.{Filled, empty-filled, empty-cached, lookup
 use Rattle.spd.specs.declared.Acceptance.{Acceptance}
 use Rattle.spd.specs.declared.Acceptance.the-variants.{Accepted, NotHeader, NotEnded, TooMany, BadRow, TooLarge}
 use Rattle.spd.specs.declared.Caches.{Caches}
-use Rattle.spd.specs.Spd.{formLimit, spdWords, addressOf, rowsOf, spdAfter, emptyCaches, cachesAfter, accepting, ifAccepted}
+use Rattle.spd.specs.Spd.{spdWords, spdAfter, emptyCaches, cachesAfter, accepting, ifAccepted}
+use Rattle.spd_words.specs.Words.{formLimit, addressOf, rowsOf}
 use Rattle.spd.specs.SpdLaws.{Within, empty-within, accepted-exactly, spd-rows}
 use Rattle.sad.specs.Pairs.{placeCount, placeWords}
 use Rattle.sad.specs.TableLaws.{size-after-add, size-after-remove}

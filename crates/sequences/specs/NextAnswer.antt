@@ -24,7 +24,7 @@ use Rattle.layout.specs.NormalRows.{bothWays}
 use Rattle.decorrelate.specs.Form.{form}
 use Rattle.spd_cache.specs.Cache.{cached, lookedUp}
 use Rattle.spd_cache.specs.SlotLaws.{lookup-action}
-use Rattle.spd.specs.Spd.{addressOf, rowsOf}
+use Rattle.spd_words.specs.Words.{addressOf, rowsOf}
 use Rattle.spd.specs.SpdLaws.{spd-search}
 use Rattle.sad.specs.Pairs.{Pair, pairs, live}
 use Rattle.verdicts.specs.declared.Verdict.{Verdict}

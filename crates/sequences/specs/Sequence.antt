@@ -7,7 +7,8 @@ use Rattle.selectors.specs.declared.Direction.the-variants.{Out, In}
 use Rattle.policy_text.specs.Format.{parsePolicy}
 use Rattle.spd.specs.declared.Acceptance.{Acceptance}
 use Rattle.spd.specs.declared.Caches.{Caches}
-use Rattle.spd.specs.Spd.{formLimit, spdWords, rowsOf, addressOf, accepting, spdAfter, emptyCaches, cachesAfter, acceptanceNumber}
+use Rattle.spd.specs.Spd.{spdWords, accepting, spdAfter, emptyCaches, cachesAfter, acceptanceNumber}
+use Rattle.spd_words.specs.Words.{formLimit, rowsOf, addressOf}
 use Rattle.spd_cache.specs.declared.Cache.{Cache}
 use Rattle.sad.specs.declared.NewPair.{NewPair}
 use Rattle.sad.specs.declared.Outcome.{Outcome}

@@ -18,7 +18,8 @@ use Rattle.spd_cache.specs.declared.Cache.{Cache}
 use Rattle.spd_cache.specs.Cache.{slotCount, emptyCache, inUse, cached, turn, stored, lookedUp}
 use Rattle.spd_cache.specs.CacheLaws.{row-bound, lookup-hit, lookup-miss, lookup-none}
 use Rattle.spd_cache.specs.SlotLaws.{Filled, replaced, empty-cached, stored-rows}
-use Rattle.spd.specs.Spd.{addressOf, rowsOf, emptyCaches}
+use Rattle.spd.specs.Spd.{emptyCaches}
+use Rattle.spd_words.specs.Words.{addressOf, rowsOf}
 use Rattle.sequences.specs.Sequence.{Gateway, Call, fresh, after, run}
 use Rattle.sequences.specs.Current.{Slots, noSlots, firstRow, missedSlots, triedSlots, slotsSearched, slotsOr, slotsFrom, slots, accepts, instead, searched}
 use Rattle.sequences.specs.Invariant.{cacheOf, cacheSearched, cacheOr, Holding, Sound, cache-after, rows-read, address-kept, after-sound, fresh-sound}

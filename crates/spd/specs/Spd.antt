@@ -1,34 +1,22 @@
--- The policy that a gateway holds, as words, and policy acceptance (document 01). Assumes nothing: these are definitions.
--- The words: the gateway's address, the count of normal-form rows for out and for in, and room for 256 rows for each of the two.
-use Prim.Native.Nat.{ℕ, _-_, _*_, min}
+-- The words of a gateway that holds a policy, and policy acceptance (document 01). Assumes nothing: these are definitions.
+use Prim.Native.Nat.{ℕ, _-_}
 use mathlib.Core.Bool.{cond}
 use mathlib.Core.List.{List, _∷_, _++_}
 use lib.Dec.{leb}
-use lib.ListN.{length, getD, take, drop, replicate}
+use lib.ListN.{length, replicate}
 use Rattle.selectors.specs.declared.Direction.{Direction}
 use Rattle.selectors.specs.declared.Direction.the-variants.{Out, In}
 use Rattle.policy.specs.Policy.{PolicyRow}
-use Rattle.policy.specs.Words.{rowWords}
 use Rattle.policy_text.specs.declared.Parsed.{Parsed}
 use Rattle.policy_text.specs.declared.Parsed.the-variants.{Rows, NotHeader as NoHeader, NotEnded as NoEnd, TooMany as OverRows, BadRow as Bad, NoRoom}
 use Rattle.policy_text.specs.Format.{Policy, refused, rows}
 use Rattle.decorrelate.specs.Form.{form, formWords, directionNumber}
 use Rattle.spd_cache.specs.Cache.{emptyCache}
+use Rattle.spd_words.specs.Words.{formRoom, addressOf}
 use Rattle.spd.specs.declared.Acceptance.{Acceptance}
 use Rattle.spd.specs.declared.Acceptance.the-variants.{Accepted, NotHeader, NotEnded, TooMany, BadRow, TooLarge}
 use Rattle.spd.specs.declared.Caches.{Caches}
 use Rattle.spd.specs.declared.Settled.{Settled}
-
--- 22: 'normal form over 256 rows'.
-abbrev pub formLimit : ℕ
-formLimit = 256
-
--- The words of room for one direction.
-abbrev pub formRoom : ℕ
-formRoom = 5632
-
-abbrev pub spdSize : ℕ
-spdSize = 11267
 
 -- The words, then zeros to the end of their room.
 unfoldable pub padded : List ℕ → List ℕ
@@ -43,24 +31,6 @@ heldWords address outCount outRows inCount inRows = address ∷ outCount ∷ inC
 abbrev pub spdWords : ℕ → List PolicyRow → List ℕ
 spdWords address rs =
     heldWords address (length (form Out rs)) (formWords (form Out rs)) (length (form In rs)) (formWords (form In rs))
-
--- What any words mean: the address, the count of rows for a direction, never more than there is room for, and the words of those rows.
-abbrev pub addressOf : List ℕ → ℕ
-addressOf ws = getD ws 0 0
-
-abbrev pub countAt : Direction → ℕ
-countAt Out = 1
-countAt In = 2
-
-abbrev pub countOf : List ℕ → Direction → ℕ
-countOf ws d = min (getD ws (countAt d) 0) formLimit
-
-abbrev pub rowsAt : Direction → ℕ
-rowsAt Out = 3
-rowsAt In = 5635
-
-abbrev pub rowsOf : List ℕ → Direction → List ℕ
-rowsOf ws d = take (countOf ws d * rowWords) (drop (rowsAt d) ws)
 
 -- A refused file is refused with its own answer. (`Rows` and `NoRoom` refuse no file.)
 abbrev pub refusal : Parsed → Acceptance

@@ -20,7 +20,8 @@ use Rattle.decorrelate.specs.AgreeLaws.{empty-form}
 use Rattle.decorrelate.specs.FormLaws.{form-words-length, form-search}
 use Rattle.spd.specs.declared.Acceptance.{Acceptance}
 use Rattle.spd.specs.declared.Acceptance.the-variants.{Accepted, NotHeader, NotEnded, TooMany, BadRow, TooLarge}
-use Rattle.spd.specs.Spd.{formLimit, formRoom, spdSize, padded, heldWords, spdWords, addressOf, rowsOf, accepting, ifAccepted, spdAfter}
+use Rattle.spd.specs.Spd.{padded, heldWords, spdWords, accepting, ifAccepted, spdAfter}
+use Rattle.spd_words.specs.Words.{formLimit, formRoom, spdSize, addressOf, rowsOf}
 use Rattle.spd.specs.StoreLaws.{padded-size, padded-start}
 
 -- The words of the policy without rows.

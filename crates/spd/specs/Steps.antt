@@ -16,7 +16,8 @@ use Rattle.spd.specs.declared.Acceptance.the-variants.{Accepted, TooLarg
 use Rattle.spd.specs.declared.Caches.{Caches}
 use Rattle.spd.specs.declared.Form.{Form}
 use Rattle.spd.specs.declared.Form.the-variants.{Rows, Over}
-use Rattle.spd.specs.Spd.{formLimit, formRoom, padded, heldWords, addressOf, emptyCaches, answer, settled, spdAfter}
+use Rattle.spd.specs.Spd.{padded, heldWords, emptyCaches, answer, settled, spdAfter}
+use Rattle.spd_words.specs.Words.{formLimit, formRoom, addressOf}
 use Rattle.spd.specs.StoreLaws.{padded-size, padded-start}
 
 -- The rows of a normal form at the start of these words, or that there are more than the limit.

@@ -5,7 +5,8 @@ use mathlib.Core.Path.{_≡_, refl, ap, _∙_}
 use mathlib.Core.List.{List, [], _∷_, _++_, append-nil}
 use lib.ListN.{length, getD, set, take, drop, replicate, length-append, length-take, length-drop, length-replicate, drop-of-length-le, List·getD-eq-default}
 use lib.Seq.{paste, take-all, take-at, getD-take}
-use Rattle.spd.specs.Spd.{formRoom, spdSize, padded, heldWords}
+use Rattle.spd.specs.Spd.{padded, heldWords}
+use Rattle.spd_words.specs.Words.{formRoom, spdSize}
 
 -- A word that is not there is 0, and so are all of a list of zeros.
 zero-word : (n i : ℕ) → _≡_ {A = ℕ} (getD (replicate n 0) i 0) 0

@@ -1,21 +1,24 @@
-// The policies that a gateway holds, as words, and policy acceptance (document 01).
+// A fresh gateway's policy, and policy acceptance (document 01).
 ghost use mathlib.Core.Path.{_≡_};
 ghost use mathlib.Core.List.{[]};
-ghost use Prim.Native.Nat.{_+_, _*_, _≤_, _<_, min};
+ghost use Prim.Native.Nat.{_+_, _*_, _≤_};
 ghost use lib.ListN.{length, getD, take};
 ghost use lib.Seq.{paste};
 ghost use Rattle.policy.specs.Words.{policyRows};
 ghost use Rattle.policy_text.specs.Format.{rows, parsePolicy};
-ghost use Rattle.spd.specs.Spd.{padded, heldWords, spdWords, addressOf, countAt, rowsAt, rowsOf, spdAfter, emptyCaches, answer, settled};
+ghost use Rattle.spd.specs.Spd.{padded, heldWords, spdWords, spdAfter, emptyCaches, answer, settled};
 ghost use Rattle.spd.specs.Steps.{FormRows};
 use decorrelate::FORM_ROOM;
-use decorrelate::LIMIT;
-use decorrelate::POLICY_WORDS;
 use layout::Laid;
+use policy::LIMIT;
+use policy::POLICY_WORDS;
 use policy::ROW_WORDS;
 use policy_text::Parsed;
 use selectors::Direction;
 use spd_cache::Cache;
+use spd_words::IN_ROWS;
+use spd_words::OUT_ROWS;
+use spd_words::SPD_WORDS;
 
 // The answer to a policy file.
 pub enum Acceptance {
@@ -50,14 +53,6 @@ enum Form {
     Rows(usize),
     Over,
 }
-
-// Where the rows for out begin, after the address and the counts of rows, and where those for in.
-const OUT_ROWS: usize = 3;
-
-const IN_ROWS: usize = OUT_ROWS + POLICY_WORDS;
-
-// The words of a gateway's policy.
-pub const SPD_WORDS: usize = IN_ROWS + POLICY_WORDS;
 
 fn empty_caches() -> Caches
     ensures { λ r. ⌜ r ≡ emptyCaches ⌝ }
@@ -130,53 +125,6 @@ pub fn fresh(words: &mut [u64; SPD_WORDS], address: u32) -> Caches
     let none = [0u64; POLICY_WORDS];
     write(words, address as u64, 0, &none, 0, &none);
     empty_caches()
-}
-
-fn count_at(direction: Direction) -> usize
-    ensures { λ r. ⌜ (r ≡ countAt direction) × (r < 3) ⌝ }
-{
-    match direction {
-        Direction::Out => 1,
-        Direction::In => 2,
-    }
-}
-
-fn rows_at(direction: Direction) -> usize
-    ensures { λ r. ⌜ (r ≡ rowsAt direction) × (r ≤ 5635) ⌝ }
-{
-    match direction {
-        Direction::Out => OUT_ROWS,
-        Direction::In => IN_ROWS,
-    }
-}
-
-// A count of rows, never more than there is room for.
-fn capped(count: u64) -> usize
-    ensures { λ r. ⌜ r ≡ min count 256 ⌝ }
-{
-    if count < LIMIT as u64 {
-        count as usize
-    } else {
-        LIMIT
-    }
-}
-
-// The gateway's own address.
-pub fn address_of(words: &[u64; SPD_WORDS]) -> u64
-    ensures { λ r. ⌜ r ≡ addressOf (now (words .entry)) ⌝ }
-{
-    words[0]
-}
-
-// The normal-form rows that the gateway holds for a direction, a part of the lent words.
-pub fn rows_of(words: &[u64; SPD_WORDS], direction: Direction) -> &[u64]
-    ensures { λ r. ⌜ now r ≡ rowsOf (now (words .entry)) direction ⌝ }
-{
-    let all: &[u64] = words;
-    let count = capped(all[count_at(direction)]);
-    let start = rows_at(direction);
-    let end = start + count * ROW_WORDS;
-    &all[start..end]
 }
 
 // A refusal changes nothing.

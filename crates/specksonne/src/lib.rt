@@ -12,7 +12,8 @@ ghost use Rattle.policy_parse.specs.Parsing.{parsedIn, parsedRoom, parsedNumber
 ghost use Rattle.policy_print.specs.Printing.{printed, printedIn, printedRoom, printedNumber};
 ghost use Rattle.normaliser.specs.Normalise.{normalised, normalisedBytes, normalisedNumber, normalisedCarries};
 ghost use Rattle.same_policy.specs.Same.{compared, comparedNumber};
-ghost use Rattle.spd.specs.Spd.{spdWords, addressOf, rowsOf, accepting, spdAfter, cachesAfter, acceptanceNumber, acceptanceCarries};
+ghost use Rattle.spd.specs.Spd.{spdWords, accepting, spdAfter, cachesAfter, acceptanceNumber, acceptanceCarries};
+ghost use Rattle.spd_words.specs.Words.{addressOf, rowsOf};
 ghost use Rattle.sad.specs.Pairs.{pairs, live, addOutcome, added, removeOutcome, removed, outcomeNumber};
 ghost use Rattle.spd_cache.specs.Cache.{emptyCache};
 ghost use Rattle.verdicts.specs.Calls.{fromSaBy};
@@ -23,12 +24,10 @@ ghost use Rattle.answer_numbers.specs.Carries.{parsedCarries, printedCarries, c
 ghost use Rattle.abi.specs.Words.{directionFrom, selectorsFrom, pairFrom, actionKind, actionNumber, isFound, placeFound, isReadable, readingWords, triggerWords};
 ghost use Rattle.specksonne.specs.Fresh.{cachesFrom};
 use packet::Reading;
+use policy::LIMIT;
 use row_records::Row;
 use selectors::Direction;
 use spd::Caches;
-
-// The limit on the rows of a policy.
-const LIMIT: usize = 256;
 
 // A fresh gateway (`spd::fresh`): its address, 'the policy without rows, no pair and empty caches'.
 #[no_mangle]
