@@ -79,18 +79,19 @@ fn is_ipsec(protocol: u64) -> bool
     protocol == AH
 }
 
+// Whether a place has the live pair of that name. Most places are passed over at their SPI.
 fn is_named(table: &[u64; 1536], place: usize, protocol: u64, spi_in: u64) -> bool
     requires { ⌜ place < 64 ⌝ }
     ensures { λ r. ⌜ r ≡ namedAt (now (table .entry)) protocol «spi_in» place ⌝ }
 {
     let at = place * PLACE_WORDS;
-    if !is_ipsec(table[at]) {
+    if table[at + 1] != spi_in {
         return false;
     }
     if table[at] != protocol {
         return false;
     }
-    table[at + 1] == spi_in
+    is_ipsec(table[at])
 }
 
 // The place of the live pair of that name.
@@ -259,10 +260,10 @@ fn is_numbered(table: &[u64; 1536], place: usize, number: u64) -> bool
     ensures { λ r. ⌜ r ≡ liveAt (now (table .entry)) place && eqb (pairAt (now (table .entry)) place .number) number ⌝ }
 {
     let at = place * PLACE_WORDS;
-    if !is_ipsec(table[at]) {
+    if table[at + 3] != number {
         return false;
     }
-    table[at + 3] == number
+    is_ipsec(table[at])
 }
 
 // The place of the best pair; 64 where there is none. Most places are passed over before the values are handed on.

@@ -71,11 +71,18 @@ fn engines_agree(kind: Kind, seed: u64, operations: usize) {
 }
 
 #[test]
-fn the_proved_library_agrees_with_the_reference() {
+fn the_proved_library_agrees_with_the_reference_on_each_kind() {
     for (_, kind) in Kind::NAMES {
         engines_agree(kind, 1, 4_000);
     }
-    for seed in 2..=6 {
+    for seed in 2..=3 {
+        engines_agree(Kind::All, seed, 20_000);
+    }
+}
+
+#[test]
+fn the_proved_library_agrees_with_the_reference_on_all_kinds() {
+    for seed in 4..=6 {
         engines_agree(Kind::All, seed, 20_000);
     }
 }
