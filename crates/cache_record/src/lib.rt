@@ -9,6 +9,7 @@ use policy::Action;
 use selectors::Direction;
 use selectors::Selectors;
 use spd_cache::Cache;
+use spd_words::SPD_WORDS;
 use verdicts::Verdict;
 
 pub fn lookup(cache: &mut Cache, rows: &[u64], direction: Direction, selectors: Selectors) -> Action
@@ -21,7 +22,7 @@ pub fn lookup(cache: &mut Cache, rows: &[u64], direction: Direction, selectors: 
 
 // A packet going out: `policy` has the normal-form rows that the gateway holds, `table` its pairs, `cache` is that of the direction.
 pub fn outbound(
-    policy: &[u64; 11267],
+    policy: &[u64; SPD_WORDS],
     table: &[u64; 1536],
     cache: &mut Cache,
     bytes: &[u8],
@@ -35,7 +36,7 @@ pub fn outbound(
 
 // A packet coming in from outside.
 pub fn inbound(
-    policy: &[u64; 11267],
+    policy: &[u64; SPD_WORDS],
     table: &[u64; 1536],
     cache: &mut Cache,
     bytes: &[u8],

@@ -3,7 +3,7 @@ ghost use mathlib.Core.Path.{_≡_};
 ghost use mathlib.Core.Bool.{true};
 ghost use mathlib.Core.Logic.{_↔_};
 ghost use Rattle.selectors.specs.Range.{ipv4Sizes};
-ghost use Rattle.policy.specs.Words.{policyRows};
+ghost use Rattle.policy.specs.Words.{policyRows, rowLimit};
 ghost use Rattle.layout.specs.Parting.{differenceForm};
 ghost use Rattle.layout.specs.Laid.{sizesOf, Outcome};
 ghost use Rattle.decorrelate.specs.Agree.{Agree};
@@ -81,7 +81,7 @@ pub fn difference(
 
 // Lays out the normal form of a policy of IPv4 for a direction: its words stand at the start of the room; the rest is scratch.
 pub fn normal_form(rows: &[u64], direction: Direction, room: &mut [u64]) -> Laid
-    ensures { λ r. ⌜ FormOutcome 256 direction (policyRows (now (rows .entry))) (now (room .entry)) (now (room .exit)) r ⌝ }
+    ensures { λ r. ⌜ FormOutcome rowLimit direction (policyRows (now (rows .entry))) (now (room .entry)) (now (room .exit)) r ⌝ }
 {
     difference(rows, &rows[..0], direction, IPV4, LIMIT, room)
 }

@@ -9,6 +9,7 @@ use own_ipsec::Own;
 use packet::Reading;
 use selectors::Direction;
 use spd_cache::Cache;
+use spd_words::SPD_WORDS;
 use verdicts::Verdict;
 
 // A packet's verdict, with the cache handed back.
@@ -18,7 +19,12 @@ pub struct Answered {
 }
 
 // A packet going out: `policy` has the normal-form rows that the gateway holds, `table` its pairs, `cache` is that of the direction.
-pub fn outbound(policy: &[u64; 11267], table: &[u64; 1536], cache: Cache, bytes: &[u8]) -> Answered
+pub fn outbound(
+    policy: &[u64; SPD_WORDS],
+    table: &[u64; 1536],
+    cache: Cache,
+    bytes: &[u8],
+) -> Answered
     ensures { λ r. ⌜ r ≡ outboundCached cache (rowsOf (now (policy .entry)) Direction.Out) (pairs (now (table .entry))) (now (bytes .entry)) ⌝ }
 {
     let reading = packet::read(bytes, Direction::Out);
@@ -40,7 +46,12 @@ pub fn outbound(policy: &[u64; 11267], table: &[u64; 1536], cache: Cache, bytes:
 }
 
 // A packet coming in from outside.
-pub fn inbound(policy: &[u64; 11267], table: &[u64; 1536], cache: Cache, bytes: &[u8]) -> Answered
+pub fn inbound(
+    policy: &[u64; SPD_WORDS],
+    table: &[u64; 1536],
+    cache: Cache,
+    bytes: &[u8],
+) -> Answered
     ensures { λ r. ⌜ r ≡ inboundCached cache (rowsOf (now (policy .entry)) Direction.In) (addressOf (now (policy .entry))) (pairs (now (table .entry))) (now (bytes .entry)) ⌝ }
 {
     let reading = packet::read(bytes, Direction::In);

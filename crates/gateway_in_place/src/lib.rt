@@ -7,11 +7,12 @@ ghost use Rattle.gateway.specs.Cached.{outboundCached, inboundCached};
 use own_ipsec::Own;
 use packet::Reading;
 use selectors::Direction;
+use spd_words::SPD_WORDS;
 use verdicts::Verdict;
 
 // A packet going out (`gateway::outbound`).
 pub fn outbound(
-    policy: &[u64; 11267],
+    policy: &[u64; SPD_WORDS],
     table: &[u64; 1536],
     cache: &mut [u64; 706],
     bytes: &[u8],
@@ -33,7 +34,7 @@ pub fn outbound(
 
 // A packet coming in from outside (`gateway::inbound`).
 pub fn inbound(
-    policy: &[u64; 11267],
+    policy: &[u64; SPD_WORDS],
     table: &[u64; 1536],
     cache: &mut [u64; 706],
     bytes: &[u8],

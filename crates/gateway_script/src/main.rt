@@ -19,6 +19,7 @@ mod fields;
 
 ghost use mathlib.Core.Path.{_≡_};
 ghost use Prim.Native.Nat.{_≤_, _<_};
+ghost use Rattle.policy.specs.Words.{rowLimit};
 ghost use Rattle.policy_text.specs.Format.{parsePolicy};
 ghost use Rattle.sad.specs.Pairs.{pairs};
 ghost use Rattle.spd.specs.Spd.{spdAfter, cachesAfter};
@@ -47,6 +48,7 @@ use sad::NewPair;
 use selectors::Direction;
 use selectors::Value;
 use spd::Caches;
+use spd_words::SPD_WORDS;
 
 // What a line asks for.
 enum Operation {
@@ -96,7 +98,7 @@ fn from_input(file: i32) {
 }
 
 fn replay(script: &[u8]) {
-    let mut policy = [0u64; 11267];
+    let mut policy = [0u64; SPD_WORDS];
     let mut table = [0u64; 1536];
     let mut caches = spd::fresh(&mut policy, 0);
     let mut at: usize = 0;
@@ -119,7 +121,7 @@ fn next_line(end: usize, at: usize, length: usize) -> usize
 }
 
 fn one_line(
-    policy: &mut [u64; 11267],
+    policy: &mut [u64; SPD_WORDS],
     table: &mut [u64; 1536],
     caches: Caches,
     line: &[u8],
@@ -179,7 +181,7 @@ fn operation_on_bytes(line: &[u8]) -> Operation {
 
 // Carries a line out, and writes its answer.
 fn operate(
-    policy: &mut [u64; 11267],
+    policy: &mut [u64; SPD_WORDS],
     table: &mut [u64; 1536],
     caches: Caches,
     line: &[u8],
@@ -205,7 +207,7 @@ fn refuse(caches: Caches) -> Caches
 
 // A fresh gateway: its address, the policy without rows, no pair and empty caches.
 fn gate(
-    policy: &mut [u64; 11267],
+    policy: &mut [u64; SPD_WORDS],
     table: &mut [u64; 1536],
     caches: Caches,
     fields: &[u8],
@@ -293,7 +295,7 @@ fn remove(table: &mut [u64; 1536], caches: Caches, fields: &[u8]) -> Caches
 
 // An operation whose last field is a byte string. The room is long enough for any line of a script.
 fn on_text(
-    policy: &mut [u64; 11267],
+    policy: &mut [u64; SPD_WORDS],
     table: &mut [u64; 1536],
     caches: Caches,
     call: Call,
@@ -308,7 +310,7 @@ fn on_text(
 }
 
 fn on_bytes(
-    policy: &mut [u64; 11267],
+    policy: &mut [u64; SPD_WORDS],
     table: &[u64; 1536],
     caches: Caches,
     call: Call,
@@ -323,9 +325,9 @@ fn on_bytes(
     }
 }
 
-fn accept(policy: &mut [u64; 11267], caches: Caches, bytes: &[u8]) -> Caches
-    ensures { λ r. ⌜ r ≡ cachesAfter 256 caches (parsePolicy 256 (now (bytes .entry))) ⌝ }
-    ensures { λ _. ⌜ now (policy .exit) ≡ spdAfter 256 (now (policy .entry)) (parsePolicy 256 (now (bytes .entry))) ⌝ }
+fn accept(policy: &mut [u64; SPD_WORDS], caches: Caches, bytes: &[u8]) -> Caches
+    ensures { λ r. ⌜ r ≡ cachesAfter rowLimit caches (parsePolicy rowLimit (now (bytes .entry))) ⌝ }
+    ensures { λ _. ⌜ now (policy .exit) ≡ spdAfter rowLimit (now (policy .entry)) (parsePolicy rowLimit (now (bytes .entry))) ⌝ }
 {
     let settled = spd::accept(policy, caches, bytes);
     let acceptance = settled.acceptance;
@@ -333,7 +335,7 @@ fn accept(policy: &mut [u64; 11267], caches: Caches, bytes: &[u8]) -> Caches
     settled.caches
 }
 
-fn outbound(policy: &[u64; 11267], table: &[u64; 1536], caches: Caches, bytes: &[u8]) -> Caches
+fn outbound(policy: &[u64; SPD_WORDS], table: &[u64; 1536], caches: Caches, bytes: &[u8]) -> Caches
     ensures { λ r. ⌜ r .outbound ≡ outboundCached (caches .outbound) (rowsOf (now (policy .entry)) Direction.Out) (pairs (now (table .entry))) (now (bytes .entry)) .cache ⌝ }
     ensures { λ r. ⌜ r .inbound ≡ caches .inbound ⌝ }
 {
@@ -349,7 +351,7 @@ fn outbound(policy: &[u64; 11267], table: &[u64; 1536], caches: Caches, bytes: &
     }
 }
 
-fn inbound(policy: &[u64; 11267], table: &[u64; 1536], caches: Caches, bytes: &[u8]) -> Caches
+fn inbound(policy: &[u64; SPD_WORDS], table: &[u64; 1536], caches: Caches, bytes: &[u8]) -> Caches
     ensures { λ r. ⌜ r .inbound ≡ inboundCached (caches .inbound) (rowsOf (now (policy .entry)) Direction.In) (addressOf (now (policy .entry))) (pairs (now (table .entry))) (now (bytes .entry)) .cache ⌝ }
     ensures { λ r. ⌜ r .outbound ≡ caches .outbound ⌝ }
 {

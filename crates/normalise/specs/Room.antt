@@ -1,5 +1,5 @@
--- The room for a normal-form file: 30,729 bytes are never too few, and what is printed stands at their start. Assumes nothing.
-use Prim.Native.Nat.{ℕ, _≤_, _<_}
+-- The room for a normal-form file, which is never too short, and what is printed stands at their start. Assumes nothing.
+use Prim.Native.Nat.{ℕ, _+_, _*_, _≤_, _<_}
 use native.Mathlib.Omega.{arith}
 use native.Mathlib.Decide.{decLe}
 use mathlib.Core.Path.{_≡_, refl, sym, _∙_}
@@ -8,6 +8,7 @@ use lib.ListN.{length, take, drop, length-map, length-append}
 use lib.Seq.{take-at}
 use borrow.Author.Tests.{le-leb, lt-leb}
 use Rattle.selectors.specs.declared.Direction.{Direction}
+use Rattle.policy.specs.Words.{rowLimit}
 use Rattle.policy.specs.Policy.{PolicyRow, asPolicy}
 use Rattle.policy_text.specs.declared.Parsed.{Parsed}
 use Rattle.policy_text.specs.declared.Parsed.the-variants.{Rows, NotHeader, NotEnded, TooMany, BadRow, NoRoom}
@@ -21,15 +22,19 @@ use Rattle.decorrelate.specs.Form.{form}
 use Rattle.normaliser.specs.Normalise.{formFile, refusal, normalised, normalisedBytes}
 use Rattle.policy_parse.specs.Taken.{taken, never-short}
 
+-- The bytes of the longest normal-form file: its header, and at most 120 for each row (`policy-length`).
+abbrev pub formBytes : ℕ
+formBytes = 9 + rowLimit * 120
+
 -- What normalising may answer a policy of those rows with room for any normal-form file: its file at the start of the room, or 22. 'A call for one
 -- way alone tries 22 for that way only; 31 comes last', and here never comes.
 unfoldable pub PolicyAnswered : Direction → List PolicyRow → List ℕ → Normalised → Type 0
-PolicyAnswered d rs room (Printed n) = (length (form d rs) ≤ 256) × (n ≤ length room) × (take n room ≡ formFile d rs)
+PolicyAnswered d rs room (Printed n) = (length (form d rs) ≤ rowLimit) × (n ≤ length room) × (take n room ≡ formFile d rs)
 PolicyAnswered d rs room NoHeader = ⊥
 PolicyAnswered d rs room NoEnd = ⊥
 PolicyAnswered d rs room OverRows = ⊥
 PolicyAnswered d rs room (Bad i) = ⊥
-PolicyAnswered d rs room (TooLarge w) = (256 < length (form d rs)) × (w ≡ d)
+PolicyAnswered d rs room (TooLarge w) = (rowLimit < length (form d rs)) × (w ≡ d)
 PolicyAnswered d rs room Short = ⊥
 
 -- And a file: one that is no policy has its own refusal.
@@ -39,43 +44,43 @@ Answered d (refused p) room r = (r ≡ refusal p) × (r ≡ Short → ⊥)
 
 -- A text that is the normal-form file of a file and direction.
 unfoldable pub IsFormFile : Direction → Policy → List ℕ → Type 0
-IsFormFile d (rows rs) text = (length (form d rs) ≤ 256) × (text ≡ formFile d rs)
+IsFormFile d (rows rs) text = (length (form d rs) ≤ rowLimit) × (text ≡ formFile d rs)
 IsFormFile d (refused p) text = ⊥
 
-module _ (d : Direction) (s room : List ℕ) (enough : 30729 ≤ length room) where
-  answered-rows : (rs : List PolicyRow) → parsePolicy 256 s ≡ rows rs
-      → Answered d (rows rs) (normalisedBytes 256 d room (rows rs)) (normalised 256 d (length room) (rows rs))
+module _ (d : Direction) (s room : List ℕ) (enough : formBytes ≤ length room) where
+  answered-rows : (rs : List PolicyRow) → parsePolicy rowLimit s ≡ rows rs
+      → Answered d (rows rs) (normalisedBytes rowLimit d room (rows rs)) (normalised rowLimit d (length room) (rows rs))
   unfolding Answered PolicyAnswered
-  answered-rows rs e = by (decLe (length (form d rs)) 256)
+  answered-rows rs e = by (decLe (length (form d rs)) rowLimit)
     where
-      by : Dec (length (form d rs) ≤ 256) → Answered d (rows rs) (normalisedBytes 256 d room (rows rs)) (normalised 256 d (length room) (rows rs))
+      by : Dec (length (form d rs) ≤ rowLimit) → Answered d (rows rs) (normalisedBytes rowLimit d room (rows rs)) (normalised rowLimit d (length room) (rows rs))
       by (yes h) =
-          let most = policy-length (asPolicy d (form d rs)) (normal-form-printable d rs (parse-printable 256 s rs e .0)) in
+          let most = policy-length (asPolicy d (form d rs)) (normal-form-printable d rs (parse-printable rowLimit s rs e .0)) in
           let count : length (asPolicy d (form d rs)) ≡ length (form d rs) = rw length-map in
           let fits : length (formFile d rs) ≤ length room = omega (arith, most, count) in
-          rw (le-leb (length (form d rs)) 256 h, le-leb (length (formFile d rs)) (length room) fits)
+          rw (le-leb (length (form d rs)) rowLimit h, le-leb (length (formFile d rs)) (length room) fits)
           (h, simp length-append (omega arith), take-at (formFile d rs) (drop (length (formFile d rs)) room) (length (formFile d rs)) refl)
-      by (no h) = let g : 256 < length (form d rs) = omega arith in rw (lt-leb (length (form d rs)) 256 g) (g, refl)
+      by (no h) = let g : rowLimit < length (form d rs) = omega arith in rw (lt-leb (length (form d rs)) rowLimit g) (g, refl)
 
-  answered-refused : (p : Parsed) → parsePolicy 256 s ≡ refused p → Answered d (refused p) room (refusal p)
+  answered-refused : (p : Parsed) → parsePolicy rowLimit s ≡ refused p → Answered d (refused p) room (refusal p)
   unfolding Answered
   answered-refused p e = (refl, by p e)
     where
       rows≢refused : {rs : List PolicyRow} {q : Parsed} → rows rs ≡ refused q → ⊥
       rows≢refused f = let z : _≡_ {A = ℕ} 0 1 = cc in omega arith
 
-      by : (q : Parsed) → parsePolicy 256 s ≡ refused q → refusal q ≡ Short → ⊥
-      by (Rows n) f g = rows≢refused (sym (taken 256 s room (omega arith) n (rw f) .is) ∙ f)
+      by : (q : Parsed) → parsePolicy rowLimit s ≡ refused q → refusal q ≡ Short → ⊥
+      by (Rows n) f g = rows≢refused (sym (taken rowLimit s room (omega arith) n (rw f) .is) ∙ f)
       by NotHeader f g = let z : _≡_ {A = ℕ} 0 1 = cc in omega arith
       by NotEnded f g = let z : _≡_ {A = ℕ} 0 1 = cc in omega arith
       by TooMany f g = let z : _≡_ {A = ℕ} 0 1 = cc in omega arith
       by (BadRow i) f g = let z : _≡_ {A = ℕ} 0 1 = cc in omega arith
-      by NoRoom f g = never-short 256 s (length room) (omega arith) (rw f)
+      by NoRoom f g = never-short rowLimit s (length room) (omega arith) (rw f)
 
-  pub answered : Answered d (parsePolicy 256 s) (normalisedBytes 256 d room (parsePolicy 256 s)) (normalised 256 d (length room) (parsePolicy 256 s))
-  answered = by (parsePolicy 256 s) refl
+  pub answered : Answered d (parsePolicy rowLimit s) (normalisedBytes rowLimit d room (parsePolicy rowLimit s)) (normalised rowLimit d (length room) (parsePolicy rowLimit s))
+  answered = by (parsePolicy rowLimit s) refl
     where
-      by : (p : Policy) → parsePolicy 256 s ≡ p → Answered d p (normalisedBytes 256 d room p) (normalised 256 d (length room) p)
+      by : (p : Policy) → parsePolicy rowLimit s ≡ p → Answered d p (normalisedBytes rowLimit d room p) (normalised rowLimit d (length room) p)
       by (refused p) e = answered-refused p e
       by (rows rs) e = answered-rows rs e
 

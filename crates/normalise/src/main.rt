@@ -7,16 +7,21 @@
 // a normal-form file has its header line at least.
 ghost use mathlib.Core.Path.{_≡_};
 ghost use lib.ListN.{length};
+ghost use Rattle.policy.specs.Words.{rowLimit};
 ghost use Rattle.normaliser.specs.Normalise.{normalised, normalisedNumber};
 ghost use Rattle.policy_text.specs.Format.{parsePolicy};
 ghost use Rattle.normalise.specs.Command.{directionAsked, Within};
-ghost use Rattle.normalise.specs.Room.{Answered, IsFormFile};
+ghost use Rattle.normalise.specs.Room.{formBytes, Answered, IsFormFile};
 use libc::STDERR_FILENO;
 use libc::STDIN_FILENO;
 use libc::STDOUT_FILENO;
 use normaliser::Normalised;
+use policy::LIMIT;
 use policy_text::same;
 use selectors::Direction;
+
+// The bytes of the longest normal-form file: its header, and at most 120 for each row.
+const FORM_BYTES: usize = 9 + LIMIT * 120;
 
 // The direction that a word asks for, or none.
 enum Asked {
@@ -124,7 +129,7 @@ fn read_input(file: i32, room: &mut [u8]) -> Input
 
 // Writes the normal-form file, or the line of the refusal.
 fn print_normal_form(policy: &[u8], direction: Direction) {
-    let mut text = [0u8; 30729];
+    let mut text = [0u8; FORM_BYTES];
     let answer = normal_form(policy, direction, &mut text);
     match answer {
         Normalised::Printed(count) => write_file(&text[..count], policy, direction),
@@ -132,17 +137,17 @@ fn print_normal_form(policy: &[u8], direction: Direction) {
     }
 }
 
-// The longest normal-form file has 9 bytes of header and 256 rows of 120, so the room is never too short.
-fn normal_form(policy: &[u8], direction: Direction, text: &mut [u8; 30729]) -> Normalised
-    ensures { λ r. ⌜ r ≡ normalised 256 direction 30729 (parsePolicy 256 (now (policy .entry))) ⌝ }
-    ensures { λ r. ⌜ Answered direction (parsePolicy 256 (now (policy .entry))) (now (text .exit)) r ⌝ }
+// The room is never too short.
+fn normal_form(policy: &[u8], direction: Direction, text: &mut [u8; FORM_BYTES]) -> Normalised
+    ensures { λ r. ⌜ r ≡ normalised rowLimit direction formBytes (parsePolicy rowLimit (now (policy .entry))) ⌝ }
+    ensures { λ r. ⌜ Answered direction (parsePolicy rowLimit (now (policy .entry))) (now (text .exit)) r ⌝ }
 {
     normaliser::normalise(policy, direction, text)
 }
 
 // Nothing but the normal-form file of the policy file for the direction is written on standard output.
 fn write_file(text: &[u8], policy: &[u8], direction: Direction)
-    requires { ⌜ IsFormFile direction (parsePolicy 256 (now policy)) (now text) ⌝ }
+    requires { ⌜ IsFormFile direction (parsePolicy rowLimit (now policy)) (now text) ⌝ }
 {
     if !io::write_all(STDOUT_FILENO, text) {
         fail(b"standard output");
@@ -151,7 +156,7 @@ fn write_file(text: &[u8], policy: &[u8], direction: Direction)
 
 // The line of a refusal: document 01's answer for the policy file and the direction.
 fn refuse(answer: Normalised, policy: &[u8], direction: Direction)
-    requires { ⌜ answer ≡ normalised 256 direction 30729 (parsePolicy 256 (now policy)) ⌝ }
+    requires { ⌜ answer ≡ normalised rowLimit direction formBytes (parsePolicy rowLimit (now policy)) ⌝ }
 {
     io::write_all(STDERR_FILENO, b"normalise: ");
     io::print_decimal(STDERR_FILENO, answer_numbers::normalised_number(answer));

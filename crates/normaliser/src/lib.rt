@@ -1,7 +1,7 @@
 // Normalising: a policy file and a direction to the normal-form file (document 01, 'One normal form').
 ghost use mathlib.Core.Path.{_≡_};
 ghost use lib.ListN.{length};
-ghost use Rattle.policy.specs.Words.{policyRows};
+ghost use Rattle.policy.specs.Words.{policyRows, rowLimit};
 ghost use Rattle.policy_text.specs.Format.{rows, parsePolicy};
 ghost use Rattle.policy_print.specs.Printing.{printed, printedIn, printedRoom};
 ghost use Rattle.normaliser.specs.Normalise.{normalised, normalisedBytes};
@@ -45,8 +45,8 @@ fn print_rows(rows: &[u64], direction: Direction, out: &mut [u8]) -> Normalised
 
 // Lays a policy's rows out and prints them.
 fn print_form(policy: &[u64], direction: Direction, out: &mut [u8]) -> Normalised
-    ensures { λ r. ⌜ r ≡ normalised 256 direction (length (now (out .entry))) (rows (policyRows (now (policy .entry)))) ⌝ }
-    ensures { λ _. ⌜ now (out .exit) ≡ normalisedBytes 256 direction (now (out .entry)) (rows (policyRows (now (policy .entry)))) ⌝ }
+    ensures { λ r. ⌜ r ≡ normalised rowLimit direction (length (now (out .entry))) (rows (policyRows (now (policy .entry)))) ⌝ }
+    ensures { λ _. ⌜ now (out .exit) ≡ normalisedBytes rowLimit direction (now (out .entry)) (rows (policyRows (now (policy .entry)))) ⌝ }
 {
     let mut room = [0u64; FORM_ROOM];
     let laid = decorrelate::normal_form(policy, direction, &mut room);
@@ -59,8 +59,8 @@ fn print_form(policy: &[u64], direction: Direction, out: &mut [u8]) -> Normalise
 
 // The normal-form file of a policy file for a direction, at the start of the lent bytes; a refusal leaves them as they were.
 pub fn normalise(bytes: &[u8], direction: Direction, out: &mut [u8]) -> Normalised
-    ensures { λ r. ⌜ r ≡ normalised 256 direction (length (now (out .entry))) (parsePolicy 256 (now (bytes .entry))) ⌝ }
-    ensures { λ _. ⌜ now (out .exit) ≡ normalisedBytes 256 direction (now (out .entry)) (parsePolicy 256 (now (bytes .entry))) ⌝ }
+    ensures { λ r. ⌜ r ≡ normalised rowLimit direction (length (now (out .entry))) (parsePolicy rowLimit (now (bytes .entry))) ⌝ }
+    ensures { λ _. ⌜ now (out .exit) ≡ normalisedBytes rowLimit direction (now (out .entry)) (parsePolicy rowLimit (now (bytes .entry))) ⌝ }
 {
     let mut policy = [0u64; POLICY_WORDS];
     let parsed = policy_parse::parse(bytes, LIMIT, &mut policy);

@@ -43,6 +43,13 @@ rangesAt ws i = rangeAt ws i ∷ rangeAt ws (i + 4) ∷ rangeAt ws (i + 8) ∷ r
 abbrev pub rowWords : ℕ
 rowWords = 22
 
+-- The most rows of a policy (21) and of a normal form (22), and the words of so many rows.
+abbrev pub rowLimit : ℕ
+rowLimit = 256
+
+abbrev pub policyWords : ℕ
+policyWords = rowLimit * rowWords
+
 -- The row whose first word is the word `at`.
 unfoldable pub rowAt : List ℕ → ℕ → PolicyRow
 rowAt ws at = record { direction = directionOf (getD ws at 0); action = actionOf (getD ws (at + 1) 0); ranges = rangesAt ws (at + 2) }

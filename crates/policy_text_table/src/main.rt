@@ -2,6 +2,9 @@
 // writes the rows again as they are printed for `out`.
 ghost use Prim.Native.Nat.{_≤_, _<_};
 ghost use lib.ListN.{length};
+use policy::LIMIT;
+use policy::POLICY_WORDS;
+use policy::ROW_WORDS;
 use policy_parse::parse;
 use policy_print::Printed;
 use policy_print::print;
@@ -50,8 +53,8 @@ fn one_file(name: &[u8]) {
 }
 
 fn answer(bytes: &[u8]) {
-    let mut rows = [0u64; 5632];
-    let parsed = parse(bytes, 256, &mut rows);
+    let mut rows = [0u64; POLICY_WORDS];
+    let parsed = parse(bytes, LIMIT, &mut rows);
     show(parsed, &rows);
 }
 
@@ -69,8 +72,8 @@ fn show(parsed: Parsed, rows: &[u64]) {
 
 fn show_rows(rows: &[u64], n: usize) {
     show_count(b"5, rows ", n);
-    if n <= 256 {
-        print_first(rows, n * 22);
+    if n <= LIMIT {
+        print_first(rows, n * ROW_WORDS);
     }
 }
 

@@ -15,7 +15,7 @@ use Rattle.selectors.specs.declared.Direction.{Direction}
 use Rattle.normal_form.specs.Search.{holds}
 use Rattle.policy.specs.Policy.{appliesTo, matches}
 use Rattle.policy.specs.RowsLaws.{row-same, rows-same}
-use Rattle.policy.specs.Words.{valueAt, directionOf, rangesAt, rowAt, rowsFrom, rowWords}
+use Rattle.policy.specs.Words.{valueAt, directionOf, rangesAt, rowAt, rowsFrom, rowWords, rowLimit}
 use Rattle.prune.specs.Prune.{Outcome}
 use Rattle.prune.specs.Boxes.{rowsOn, hit, Idle, IdleIn, IdleRow, Copied, SameSearch, SameRows}
 use Rattle.prune.specs.SearchLaws.{idle-gone}
@@ -23,12 +23,12 @@ use Rattle.prune.specs.BoxLaws.{hit-off}
 use Rattle.prune.specs.declared.Pruned.the-variants.{Rows, NoRoom}
 
 -- All rows count at first.
-all-on : (ws : List ℕ) (n i : ℕ) → i + n ≤ 256 → rowsOn ws (replicate 256 true) i n ≡ rowsFrom ws i n
+all-on : (ws : List ℕ) (n i : ℕ) → i + n ≤ rowLimit → rowsOn ws (replicate rowLimit true) i n ≡ rowsFrom ws i n
 unfolding rowsOn rowsFrom
 all-on ws zero i h = refl
-all-on ws (suc n) i h = rw (getD-replicate 256 i true false (omega arith), all-on ws n (suc i) (omega arith))
+all-on ws (suc n) i h = rw (getD-replicate rowLimit i true false (omega arith), all-on ws n (suc i) (omega arith))
 
-pub rows-start : (d : Direction) (ws : List ℕ) (count : ℕ) → count ≤ 256 → SameRows d ws count (replicate 256 true)
+pub rows-start : (d : Direction) (ws : List ℕ) (count : ℕ) → count ≤ rowLimit → SameRows d ws count (replicate rowLimit true)
 unfolding SameRows
 rows-start d ws count h vs = rw (all-on ws count 0 (omega arith))
 
@@ -41,7 +41,7 @@ unfolding SameSearch
 search-kept d ws count on vs = refl
 
 -- A row without effect may go.
-module _ (d : Direction) (ws : List ℕ) (count : ℕ) (on : List Bool) (r : ℕ) (h : r < count) (size : length on ≡ 256) (fits : count ≤ 256) where
+module _ (d : Direction) (ws : List ℕ) (count : ℕ) (on : List Bool) (r : ℕ) (h : r < count) (size : length on ≡ rowLimit) (fits : count ≤ rowLimit) where
   row-gone : ((vs : List ℕ) → Idle d ws count on r vs) → SameSearch d ws count on (set on r false)
   unfolding SameSearch
   row-gone t vs =
@@ -173,28 +173,28 @@ module _ (ws room room′ : List ℕ) (on : List Bool) (row n : ℕ) (sofar : ro
 
 -- The whole.
 module _ (d : Direction) (ws room : List ℕ) where
-  pub many-refused : 256 < length ws / rowWords → Outcome d ws room room NoRoom
+  pub many-refused : rowLimit < length ws / rowWords → Outcome d ws room room NoRoom
   many-refused h = record {
-    answer = (λ e. rw (lt-ltb 256 (length ws / rowWords) h), λ e. refl);
+    answer = (λ e. rw (lt-ltb rowLimit (length ws / rowWords) h), λ e. refl);
     untouched = λ e. refl;
     few = λ n e. let z : _≡_ {A = ℕ} 0 1 = cc in absurd (omega arith);
     same = λ n e. let z : _≡_ {A = ℕ} 0 1 = cc in absurd (omega arith);
   }
 
-  pub short-refused : length ws / rowWords ≤ 256 → length room < length ws → Outcome d ws room room NoRoom
+  pub short-refused : length ws / rowWords ≤ rowLimit → length room < length ws → Outcome d ws room room NoRoom
   short-refused g h = record {
-    answer = (λ e. rw (le-ltb 256 (length ws / rowWords) g, lt-ltb (length room) (length ws) h), λ e. refl);
+    answer = (λ e. rw (le-ltb rowLimit (length ws / rowWords) g, lt-ltb (length room) (length ws) h), λ e. refl);
     untouched = λ e. refl;
     few = λ n e. let z : _≡_ {A = ℕ} 0 1 = cc in absurd (omega arith);
     same = λ n e. let z : _≡_ {A = ℕ} 0 1 = cc in absurd (omega arith);
   }
 
-  pub pruned : (room′ : List ℕ) (on : List Bool) (n : ℕ) → length ws / rowWords ≤ 256 → length ws ≤ length room → n ≤ length ws / rowWords
+  pub pruned : (room′ : List ℕ) (on : List Bool) (n : ℕ) → length ws / rowWords ≤ rowLimit → length ws ≤ length room → n ≤ length ws / rowWords
       → rowsFrom room′ 0 n ≡ rowsOn ws on 0 (length ws / rowWords) → SameRows d ws (length ws / rowWords) on
       → Outcome d ws room room′ (Rows n)
   unfolding SameRows
   pruned room′ on n g h few rows same = record {
-    answer = (λ e. let z : _≡_ {A = ℕ} 0 1 = cc in absurd (omega arith), λ e. absurd (false≢true (rw (le-ltb 256 (length ws / rowWords) g, le-ltb (length room) (length ws) h) at e)));
+    answer = (λ e. let z : _≡_ {A = ℕ} 0 1 = cc in absurd (omega arith), λ e. absurd (false≢true (rw (le-ltb rowLimit (length ws / rowWords) g, le-ltb (length room) (length ws) h) at e)));
     untouched = λ e. let z : _≡_ {A = ℕ} 0 1 = cc in absurd (omega arith);
     few = λ m e. let k : n ≡ m = cc in rw k at few;
     same = λ m e vs. let k : n ≡ m = cc in rw (← k, rows) (same vs);

@@ -8,17 +8,13 @@ use lib.Dec.{ltb}
 use lib.ListN.{length}
 use Rattle.selectors.specs.declared.Direction.{Direction}
 use Rattle.policy.specs.Policy.{orderedSearch}
-use Rattle.policy.specs.Words.{rowsFrom, policyRows, rowWords}
+use Rattle.policy.specs.Words.{rowsFrom, policyRows, rowWords, rowLimit}
 use Rattle.prune.specs.declared.Pruned.{Pruned}
 use Rattle.prune.specs.declared.Pruned.the-variants.{Rows, NoRoom}
 
--- The most rows of a policy that is pruned.
-abbrev pub mostRows : ℕ
-mostRows = 256
-
--- More rows than those, or a room shorter than the rows.
+-- More rows than the limit, or a room shorter than the rows.
 abbrev pub refused : List ℕ → List ℕ → Bool
-refused ws room = ltb mostRows (length ws / rowWords) || ltb (length room) (length ws)
+refused ws room = ltb rowLimit (length ws / rowWords) || ltb (length room) (length ws)
 
 -- What pruning the rows ws for a direction leaves. Which rows are kept, and what the rest of the room holds, is left open: any rows will do
 -- that give every search the same action.

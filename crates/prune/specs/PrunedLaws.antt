@@ -14,8 +14,8 @@ use Rattle.policy.specs.Action.{action-≟}
 use Rattle.policy.specs.declared.Action.the-variants.{Discard}
 use Rattle.policy.specs.Policy.{orderedSearch, policyNormalForm}
 use Rattle.policy.specs.RowsLaws.{front-rows}
-use Rattle.policy.specs.Words.{policyRows, rowWords}
-use Rattle.prune.specs.Prune.{mostRows, Outcome}
+use Rattle.policy.specs.Words.{policyRows, rowWords, rowLimit}
+use Rattle.prune.specs.Prune.{Outcome}
 use Rattle.prune.specs.declared.Pruned.the-variants.{Rows, NoRoom}
 
 module _ (d : Direction) (ws room room′ : List ℕ) (n : ℕ) (o : Outcome d ws room room′ (Rows n)) where
@@ -26,7 +26,7 @@ module _ (d : Direction) (ws room room′ : List ℕ) (n : ℕ) (o : Outcome d w
       by : Dec (length room < length ws) → n * rowWords ≤ length room
       by (no h) = omega (arith, o .few n refl)
       by (yes h) =
-          let e : Rows n ≡ NoRoom = o .answer .1 (rw (lt-ltb (length room) (length ws) h) (or-true (ltb mostRows (length ws / rowWords)))) in
+          let e : Rows n ≡ NoRoom = o .answer .1 (rw (lt-ltb (length room) (length ws) h) (or-true (ltb rowLimit (length ws / rowWords)))) in
           let z : _≡_ {A = ℕ} 0 1 = cc in
           absurd (omega arith)
 

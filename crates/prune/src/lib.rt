@@ -6,15 +6,13 @@ ghost use Prim.Native.Nat.{suc, _+_, _*_, _≤_, _<_};
 ghost use lib.ListN.{length, getD, set};
 ghost use Rattle.selectors.specs.Ranges.{fromTo};
 ghost use Rattle.selectors.specs.Value.{number};
-ghost use Rattle.policy.specs.Words.{valueAt, rangesAt, rowsFrom};
+ghost use Rattle.policy.specs.Words.{valueAt, rangesAt, rowsFrom, rowLimit};
 ghost use Rattle.prune.specs.Prune.{Outcome};
 ghost use Rattle.prune.specs.Boxes.{rowsOn, IdleIn, FieldStand, BoxStand, RowStand, Surveyed, Acting, AlikeAfter, JudgedBox, PartBelow, PartAbove, Copied, SameSearch, SameRows, without};
+use policy::LIMIT;
 use policy::ROW_WORDS;
 use selectors::Direction;
 use selectors::Value;
-
-// The most rows of a policy that is pruned.
-pub const MOST: usize = 256;
 
 // How deep a box is split.
 const DEPTH: usize = 64;
@@ -31,7 +29,7 @@ const ZERO: Value = Value { upper: 0, lower: 0 };
 pub enum Pruned {
     // The count of the rows that are left.
     Rows(usize),
-    // More than MOST rows, or a room shorter than the rows.
+    // More than the limit's rows, or a room shorter than the rows.
     NoRoom,
 }
 
@@ -45,7 +43,7 @@ struct Query {
 
 // Which rows count.
 struct Set {
-    on: [bool; 256],
+    on: [bool; LIMIT],
 }
 
 // A box: for each field low and high, of two words each, as in a row.
@@ -277,7 +275,7 @@ fn ends(covers: bool, row: usize, r: usize) -> bool
 
 // Looks at all rows that count, to the first that covers the box and is not the row asked about.
 fn survey(rows: &[u64], query: Query, set: Set, bounds: Bounds) -> Nearby
-    requires { ⌜ (query .count ≤ 256) × (query .count * 22 ≤ length (now rows)) ⌝ }
+    requires { ⌜ (query .count ≤ rowLimit) × (query .count * 22 ≤ length (now rows)) ⌝ }
     requires { ⌜ query .row < query .count ⌝ }
     ensures { λ n. ⌜ Surveyed (query .direction) (now (rows .entry)) (query .count) (set .on) (query .row) (bounds .words) n ⌝ }
 {
@@ -320,7 +318,7 @@ fn acts(on: bool, word: u64, action: u64) -> bool
 
 // Whether all rows that count after r and before `end` have r's action.
 fn acting(rows: &[u64], set: Set, r: usize, end: usize) -> bool
-    requires { ⌜ (end ≤ 256) × (end * 22 ≤ length (now rows)) ⌝ }
+    requires { ⌜ (end ≤ rowLimit) × (end * 22 ≤ length (now rows)) ⌝ }
     requires { ⌜ r < end ⌝ }
     ensures { λ b. ⌜ (b ≡ true → Acting (now (rows .entry)) (set .on) (suc r) end (getD (now (rows .entry)) (r * 22 + 1) 0)) ⌝ }
 {
@@ -337,7 +335,7 @@ fn acting(rows: &[u64], set: Set, r: usize, end: usize) -> bool
 
 // Whether what follows r has r's action: the rows before `end`, and that row, or discard where there is none.
 fn alike(rows: &[u64], direction: Direction, count: usize, set: Set, r: usize, end: usize) -> bool
-    requires { ⌜ (count ≤ 256) × (count * 22 ≤ length (now rows)) ⌝ }
+    requires { ⌜ (count ≤ rowLimit) × (count * 22 ≤ length (now rows)) ⌝ }
     requires { ⌜ (r < end) × (end ≤ count) ⌝ }
     ensures { λ b. ⌜ (b ≡ true → AlikeAfter direction (now (rows .entry)) count (set .on) r end) ⌝ }
 {
@@ -353,7 +351,7 @@ fn alike(rows: &[u64], direction: Direction, count: usize, set: Set, r: usize, e
 
 // Whether r is the first row that counts, and the next one, if any, has another action: r then matters in the box or in a part of it.
 fn shows(rows: &[u64], count: usize, set: Set, r: usize) -> bool
-    requires { ⌜ (count ≤ 256) × (count * 22 ≤ length (now rows)) ⌝ }
+    requires { ⌜ (count ≤ rowLimit) × (count * 22 ≤ length (now rows)) ⌝ }
     requires { ⌜ r < count ⌝ }
 {
     let action = rows[r * ROW_WORDS + 1];
@@ -374,7 +372,7 @@ fn shows(rows: &[u64], count: usize, set: Set, r: usize) -> bool
 
 // Whether r changes nothing in the box: the row `end` is before it and covers the box, or what follows r has its action.
 fn settled(rows: &[u64], direction: Direction, count: usize, set: Set, r: usize, end: usize) -> bool
-    requires { ⌜ (count ≤ 256) × (count * 22 ≤ length (now rows)) ⌝ }
+    requires { ⌜ (count ≤ rowLimit) × (count * 22 ≤ length (now rows)) ⌝ }
     requires { ⌜ (end ≢ r) × (end ≤ count) ⌝ }
     ensures { λ b. ⌜ (b ≡ true → (end < r) ⊎ AlikeAfter direction (now (rows .entry)) count (set .on) r end) ⌝ }
 {
@@ -386,7 +384,7 @@ fn settled(rows: &[u64], direction: Direction, count: usize, set: Set, r: usize,
 
 // The field to split the box in, or none if r matters in it anyway.
 fn worth_splitting(rows: &[u64], count: usize, set: Set, r: usize, cut: usize) -> usize
-    requires { ⌜ (count ≤ 256) × (count * 22 ≤ length (now rows)) ⌝ }
+    requires { ⌜ (count ≤ rowLimit) × (count * 22 ≤ length (now rows)) ⌝ }
     requires { ⌜ r < count ⌝ }
 {
     if shows(rows, count, set, r) {
@@ -397,7 +395,7 @@ fn worth_splitting(rows: &[u64], count: usize, set: Set, r: usize, cut: usize) -
 
 // Whether the row changes nothing in the box, as far as no split is needed to see it.
 fn judge(rows: &[u64], query: Query, set: Set, bounds: Bounds) -> Judged
-    requires { ⌜ (query .count ≤ 256) × (query .count * 22 ≤ length (now rows)) ⌝ }
+    requires { ⌜ (query .count ≤ rowLimit) × (query .count * 22 ≤ length (now rows)) ⌝ }
     requires { ⌜ query .row < query .count ⌝ }
     ensures { λ j. ⌜ JudgedBox (query .direction) (now (rows .entry)) (query .count) (set .on) (query .row) (bounds .words) j ⌝ }
 {
@@ -453,7 +451,7 @@ fn needless(
     depth: usize,
     parts: usize,
 ) -> usize
-    requires { ⌜ (query .count ≤ 256) × (query .count * 22 ≤ length (now rows)) ⌝ }
+    requires { ⌜ (query .count ≤ rowLimit) × (query .count * 22 ≤ length (now rows)) ⌝ }
     requires { ⌜ query .row < query .count ⌝ }
     ensures { λ n. ⌜ (n ≤ parts) × (0 < n → IdleIn (query .direction) (now (rows .entry)) (query .count) (set .on) (query .row) (bounds .words)) ⌝ }
 {
@@ -500,7 +498,7 @@ fn bounds_of(rows: &[u64], row: usize) -> Bounds
 // Whether a row is found to change no search: it is for the other direction, or changes nothing in its own box, by the one way of
 // splitting or by the other.
 fn dispensable(rows: &[u64], direction: Direction, count: usize, set: Set, row: usize) -> bool
-    requires { ⌜ (count ≤ 256) × (count * 22 ≤ length (now rows)) ⌝ }
+    requires { ⌜ (count ≤ rowLimit) × (count * 22 ≤ length (now rows)) ⌝ }
     requires { ⌜ row < count ⌝ }
     ensures { λ b. ⌜ (b ≡ true → SameSearch direction (now (rows .entry)) count (set .on) (without (set .on) row)) ⌝ }
 {
@@ -528,7 +526,7 @@ fn dispensable(rows: &[u64], direction: Direction, count: usize, set: Set, row: 
 
 // The set without the row, if that changes no search.
 fn drop_row(rows: &[u64], direction: Direction, count: usize, set: Set, row: usize) -> Set
-    requires { ⌜ (count ≤ 256) × (count * 22 ≤ length (now rows)) ⌝ }
+    requires { ⌜ (count ≤ rowLimit) × (count * 22 ≤ length (now rows)) ⌝ }
     requires { ⌜ row < count ⌝ }
     ensures { λ r. ⌜ SameSearch direction (now (rows .entry)) count (set .on) (r .on) ⌝ }
 {
@@ -542,10 +540,10 @@ fn drop_row(rows: &[u64], direction: Direction, count: usize, set: Set, row: usi
 
 // The rows that are kept: each row is asked about, from the last to the first.
 fn needed(rows: &[u64], direction: Direction, count: usize) -> Set
-    requires { ⌜ (count ≤ 256) × (count * 22 ≤ length (now rows)) ⌝ }
+    requires { ⌜ (count ≤ rowLimit) × (count * 22 ≤ length (now rows)) ⌝ }
     ensures { λ r. ⌜ SameRows direction (now (rows .entry)) count (r .on) ⌝ }
 {
-    let mut set = Set { on: [true; 256] };
+    let mut set = Set { on: [true; LIMIT] };
     let mut row = count;
     while 0 < row {
         row -= 1;
@@ -569,7 +567,7 @@ fn copy_row(rows: &[u64], row: usize, room: &mut [u64], n: usize)
 
 // One more, if a row counts.
 fn counted(n: usize, on: bool) -> usize
-    requires { ⌜ n < 256 ⌝ }
+    requires { ⌜ n < rowLimit ⌝ }
     ensures { λ r. ⌜ r ≡ cond on (n + 1) n ⌝ }
 {
     if on {
@@ -580,7 +578,7 @@ fn counted(n: usize, on: bool) -> usize
 
 // Copies the rows of the set to the start of the room, and answers how many there are.
 fn compact(rows: &[u64], count: usize, set: Set, room: &mut [u64]) -> usize
-    requires { ⌜ (count ≤ 256) × (count * 22 ≤ length (now rows)) ⌝ }
+    requires { ⌜ (count ≤ rowLimit) × (count * 22 ≤ length (now rows)) ⌝ }
     requires { ⌜ count * 22 ≤ length (now room) ⌝ }
     ensures { λ n. ⌜ (n ≤ count) × (rowsFrom (now (room .exit)) 0 n ≡ rowsOn (now (rows .entry)) (set .on) 0 count) ⌝ }
 {
@@ -600,7 +598,7 @@ pub fn prune(rows: &[u64], direction: Direction, room: &mut [u64]) -> Pruned
     ensures { λ r. ⌜ Outcome direction (now (rows .entry)) (now (room .entry)) (now (room .exit)) r ⌝ }
 {
     let count = rows.len() / ROW_WORDS;
-    if MOST < count {
+    if LIMIT < count {
         return Pruned::NoRoom;
     }
     if room.len() < rows.len() {

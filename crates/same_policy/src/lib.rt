@@ -1,6 +1,6 @@
 // Whether two policy files are the same policy in a direction: every search of one gives what it gives of the other.
 ghost use mathlib.Core.Path.{_≡_};
-ghost use Rattle.policy.specs.Words.{policyRows};
+ghost use Rattle.policy.specs.Words.{policyRows, rowLimit};
 ghost use Rattle.policy_text.specs.Format.{rows as rowsIn, parsePolicy};
 ghost use Rattle.same_policy.specs.Same.{compared};
 use policy::LIMIT;
@@ -30,7 +30,7 @@ fn compare_rows(first: &[u64], second: &[u64], direction: Direction) -> Compared
 
 // Compares a policy's rows with a file.
 fn compare_file(first: &[u64], second: &[u8], direction: Direction) -> Compared
-    ensures { λ r. ⌜ r ≡ compared direction (rowsIn (policyRows (now (first .entry)))) (parsePolicy 256 (now (second .entry))) ⌝ }
+    ensures { λ r. ⌜ r ≡ compared direction (rowsIn (policyRows (now (first .entry)))) (parsePolicy rowLimit (now (second .entry))) ⌝ }
 {
     let mut room = [0u64; POLICY_WORDS];
     let parsed = policy_parse::parse(second, LIMIT, &mut room);
@@ -46,7 +46,7 @@ fn compare_file(first: &[u64], second: &[u8], direction: Direction) -> Compared
 
 // Compares two policy files in a direction. A refusal is that of the first file that is refused.
 pub fn same_policy(first: &[u8], second: &[u8], direction: Direction) -> Compared
-    ensures { λ r. ⌜ r ≡ compared direction (parsePolicy 256 (now (first .entry))) (parsePolicy 256 (now (second .entry))) ⌝ }
+    ensures { λ r. ⌜ r ≡ compared direction (parsePolicy rowLimit (now (first .entry))) (parsePolicy rowLimit (now (second .entry))) ⌝ }
 {
     let mut room = [0u64; POLICY_WORDS];
     let parsed = policy_parse::parse(first, LIMIT, &mut room);

@@ -10,6 +10,7 @@ use Rattle.packet.specs.Read.{readPacket}
 use Rattle.packet.specs.ReadLaws.{Bytes}
 use Rattle.packet.specs.declared.Reading.{Reading}
 use Rattle.packet.specs.declared.Reading.the-variants.{Readable, Unreadable}
+use Rattle.policy.specs.Words.{rowLimit}
 use Rattle.policy.specs.Policy.{PolicyRow, matches, orderedSearch}
 use Rattle.policy_text.specs.Format.{Policy, refused, rows, parsePolicy}
 use Rattle.layout.specs.NormalRows.{bothWays}
@@ -17,7 +18,6 @@ use Rattle.decorrelate.specs.Form.{form}
 use Rattle.spd_cache.specs.Cache.{slotCount}
 use Rattle.spd_cache.specs.SlotLaws.{replaced}
 use Rattle.spd.specs.Spd.{accepting, ifAccepted}
-use Rattle.spd_words.specs.Words.{formLimit}
 use Rattle.sad.specs.declared.NewPair.{NewPair}
 use Rattle.sad.specs.declared.Outcome.{Outcome}
 use Rattle.sad.specs.declared.Outcome.the-variants.{Done, ReservedSpi, AlreadyLive, TableFull, BadPair, NothingToRemove}
@@ -28,10 +28,10 @@ use Rattle.sequences.specs.Sequence.{Call, policy, add, remove, outbound
 -- The rows of a file that is accepted: one that 23, 24, 21, 20 and 22 let through.
 abbrev pub acceptedRows : Policy → Option (List PolicyRow)
 acceptedRows (refused p) = none
-acceptedRows (rows rs) = ifAccepted (accepting formLimit (rows rs)) (some rs) none
+acceptedRows (rows rs) = ifAccepted (accepting rowLimit (rows rs)) (some rs) none
 
 abbrev pub accepts : Call → Option (List PolicyRow)
-accepts (policy s) = acceptedRows (parsePolicy formLimit s)
+accepts (policy s) = acceptedRows (parsePolicy rowLimit s)
 accepts (add p) = none
 accepts (remove protocol spi) = none
 accepts (outbound p) = none
@@ -148,7 +148,7 @@ slots d address cs = slotsFrom d address [] noSlots cs
 
 -- The answer to a call by document 01's rules, from the gateway's address, the current policy and the live pairs.
 abbrev pub ruled : ℕ → List PolicyRow → List Pair → Call → Answer
-ruled address rs qs (policy s) = forPolicy (accepting formLimit (parsePolicy formLimit s))
+ruled address rs qs (policy s) = forPolicy (accepting rowLimit (parsePolicy rowLimit s))
 ruled address rs qs (add p) = forPair (addOutcome qs p)
 ruled address rs qs (remove protocol spi) = forPair (removeOutcome qs protocol spi)
 ruled address rs qs (outbound p) = forPacket (outboundBy (orderedSearch Out rs) qs p)

@@ -13,7 +13,7 @@ use Rattle.packet.specs.Read.{readPacket}
 use Rattle.packet.specs.declared.Reading.{Reading}
 use Rattle.packet.specs.declared.Reading.the-variants.{Readable, Unreadable}
 use Rattle.policy.specs.Policy.{PolicyRow}
-use Rattle.policy.specs.Words.{policyRows}
+use Rattle.policy.specs.Words.{policyRows, rowLimit}
 use Rattle.policy_text.specs.Format.{Policy, refused, rows, parsePolicy}
 use Rattle.policy_text.specs.declared.Parsed.{Parsed}
 use Rattle.policy_text.specs.declared.Parsed.the-variants.{Rows, NotHeader as NoHeader, NotEnded as NoEnd, TooMany as OverRows, BadRow as Bad, NoRoom}
@@ -27,7 +27,7 @@ use Rattle.spd.specs.declared.Acceptance.{Acceptance}
 use Rattle.spd.specs.declared.Acceptance.the-variants.{Accepted, NotHeader, NotEnded, TooMany, BadRow, TooLarge}
 use Rattle.spd.specs.declared.Caches.{Caches}
 use Rattle.spd.specs.Spd.{spdWords, spdAfter, emptyCaches, cachesAfter, accepting, ifAccepted}
-use Rattle.spd_words.specs.Words.{formLimit, addressOf, rowsOf}
+use Rattle.spd_words.specs.Words.{addressOf, rowsOf}
 use Rattle.spd.specs.SpdLaws.{Within, empty-within, accepted-exactly, spd-rows}
 use Rattle.sad.specs.Pairs.{placeCount, placeWords}
 use Rattle.sad.specs.TableLaws.{size-after-add, size-after-remove}
@@ -64,30 +64,30 @@ if-accepted new old take rs p q TooMany = sym q
 if-accepted new old take rs p q (BadRow i) = sym q
 if-accepted new old take rs p q (TooLarge d) = sym q
 
-spd-settled : (ws : List ℕ) (f : Policy) → spdAfter formLimit ws f ≡ spdOr ws (acceptedRows f)
+spd-settled : (ws : List ℕ) (f : Policy) → spdAfter rowLimit ws f ≡ spdOr ws (acceptedRows f)
 spd-settled ws (refused p) = refl
-spd-settled ws (rows rs) = if-accepted (spdWords (addressOf ws) rs) ws (spdOr ws) rs refl refl (accepting formLimit (rows rs))
+spd-settled ws (rows rs) = if-accepted (spdWords (addressOf ws) rs) ws (spdOr ws) rs refl refl (accepting rowLimit (rows rs))
 
-caches-settled : (c : Caches) (f : Policy) → cachesAfter formLimit c f ≡ cachesOr c (acceptedRows f)
+caches-settled : (c : Caches) (f : Policy) → cachesAfter rowLimit c f ≡ cachesOr c (acceptedRows f)
 caches-settled c (refused p) = kept p
   where
-    kept : (p : Parsed) → cachesAfter formLimit c (refused p) ≡ c
+    kept : (p : Parsed) → cachesAfter rowLimit c (refused p) ≡ c
     kept (Rows n) = refl
     kept NoHeader = refl
     kept NoEnd = refl
     kept OverRows = refl
     kept (Bad i) = refl
     kept NoRoom = refl
-caches-settled c (rows rs) = if-accepted emptyCaches c (cachesOr c) rs refl refl (accepting formLimit (rows rs))
+caches-settled c (rows rs) = if-accepted emptyCaches c (cachesOr c) rs refl refl (accepting rowLimit (rows rs))
 
 none≢some : (rs : List PolicyRow) → _≡_ {A = Option (List PolicyRow)} none (some rs) → ⊥
 none≢some rs e = let z : _≡_ {A = ℕ} 0 1 = cc in omega arith
 
 accepted-within : (f : Policy) (rs : List PolicyRow) → acceptedRows f ≡ some rs → Within rs
 accepted-within (refused p) rs e = absurd (none≢some rs e)
-accepted-within (rows qs) rs e = by (accepting formLimit (rows qs)) refl e
+accepted-within (rows qs) rs e = by (accepting rowLimit (rows qs)) refl e
   where
-    by : (a : Acceptance) → accepting formLimit (rows qs) ≡ a → ifAccepted a (some qs) none ≡ some rs → Within rs
+    by : (a : Acceptance) → accepting rowLimit (rows qs) ≡ a → ifAccepted a (some qs) none ≡ some rs → Within rs
     by Accepted g h = let same : qs ≡ rs = cc in subst Within same (accepted-exactly qs .0 g)
     by NotHeader g h = absurd (none≢some rs h)
     by NotEnded g h = absurd (none≢some rs h)
@@ -167,7 +167,7 @@ caches-each In c (some rs) = refl
 
 pub spd-after : (g : Gateway) (c : Call) → after g c .spd ≡ spdOr (g .spd) (accepts c)
 unfolding after
-spd-after g (policy s) = spd-settled (g .spd) (parsePolicy formLimit s)
+spd-after g (policy s) = spd-settled (g .spd) (parsePolicy rowLimit s)
 spd-after g (add p) = refl
 spd-after g (remove protocol spi) = refl
 spd-after g (outbound p) = refl
@@ -177,8 +177,8 @@ spd-after g (fromSa protocol spi p) = refl
 pub cache-after : (d : Direction) (g : Gateway) (c : Call)
     → cacheOf d (after g c .caches) ≡ cacheOr (cacheSearched d (rowsOf (g .spd) d) (cacheOf d (g .caches)) (searched d (addressOf (g .spd)) c)) (accepts c)
 unfolding after
-cache-after Out g (policy s) = ap (cacheOf Out) (caches-settled (g .caches) (parsePolicy formLimit s)) ∙ caches-each Out (g .caches) (acceptedRows (parsePolicy formLimit s))
-cache-after In g (policy s) = ap (cacheOf In) (caches-settled (g .caches) (parsePolicy formLimit s)) ∙ caches-each In (g .caches) (acceptedRows (parsePolicy formLimit s))
+cache-after Out g (policy s) = ap (cacheOf Out) (caches-settled (g .caches) (parsePolicy rowLimit s)) ∙ caches-each Out (g .caches) (acceptedRows (parsePolicy rowLimit s))
+cache-after In g (policy s) = ap (cacheOf In) (caches-settled (g .caches) (parsePolicy rowLimit s)) ∙ caches-each In (g .caches) (acceptedRows (parsePolicy rowLimit s))
 cache-after Out g (outbound p) = out-cache (g .caches .outbound) (rowsOf (g .spd) Out) (addressOf (g .spd)) _ p
 cache-after In g (inbound p) = in-cache (g .caches .inbound) (rowsOf (g .spd) In) (addressOf (g .spd)) _ p
 cache-after Out g (add p) = refl
@@ -200,7 +200,7 @@ pair-words-after g (inbound p) h = h
 pair-words-after g (fromSa protocol spi p) h = h
 
 accepts-within : (c : Call) (rs : List PolicyRow) → accepts c ≡ some rs → Within rs
-accepts-within (policy s) rs e = accepted-within (parsePolicy formLimit s) rs e
+accepts-within (policy s) rs e = accepted-within (parsePolicy rowLimit s) rs e
 accepts-within (add p) rs e = absurd (none≢some rs e)
 accepts-within (remove protocol spi) rs e = absurd (none≢some rs e)
 accepts-within (outbound p) rs e = absurd (none≢some rs e)

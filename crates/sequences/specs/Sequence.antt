@@ -4,11 +4,12 @@ use Prim.Native.Nat.{ℕ, _*_}
 use mathlib.Core.List.{List, [], _∷_}
 use lib.ListN.{replicate}
 use Rattle.selectors.specs.declared.Direction.the-variants.{Out, In}
+use Rattle.policy.specs.Words.{rowLimit}
 use Rattle.policy_text.specs.Format.{parsePolicy}
 use Rattle.spd.specs.declared.Acceptance.{Acceptance}
 use Rattle.spd.specs.declared.Caches.{Caches}
 use Rattle.spd.specs.Spd.{spdWords, accepting, spdAfter, emptyCaches, cachesAfter, acceptanceNumber}
-use Rattle.spd_words.specs.Words.{formLimit, rowsOf, addressOf}
+use Rattle.spd_words.specs.Words.{rowsOf, addressOf}
 use Rattle.spd_cache.specs.declared.Cache.{Cache}
 use Rattle.sad.specs.declared.NewPair.{NewPair}
 use Rattle.sad.specs.declared.Outcome.{Outcome}
@@ -53,9 +54,9 @@ withPairs g ws = record { spd = g .spd; sad = ws; caches = g .caches }
 unfoldable pub after : Gateway → Call → Gateway
 after g (policy s) =
     record {
-      spd = spdAfter formLimit (g .spd) (parsePolicy formLimit s);
+      spd = spdAfter rowLimit (g .spd) (parsePolicy rowLimit s);
       sad = g .sad;
-      caches = cachesAfter formLimit (g .caches) (parsePolicy formLimit s);
+      caches = cachesAfter rowLimit (g .caches) (parsePolicy rowLimit s);
     }
 after g (add p) = withPairs g (added (g .sad) p)
 after g (remove protocol spi) = withPairs g (removed (g .sad) protocol spi)
@@ -75,7 +76,7 @@ pub data Answer : Type 0 where
   forPacket : Verdict → Answer
 
 unfoldable pub answered : Gateway → Call → Answer
-answered g (policy s) = forPolicy (accepting formLimit (parsePolicy formLimit s))
+answered g (policy s) = forPolicy (accepting rowLimit (parsePolicy rowLimit s))
 answered g (add p) = forPair (addOutcome (pairs (g .sad)) p)
 answered g (remove protocol spi) = forPair (removeOutcome (pairs (g .sad)) protocol spi)
 answered g (outbound p) = forPacket (goesOut g p .verdict)

@@ -6,13 +6,14 @@ use lib.Dec.{leb}
 use lib.ListN.{length, replicate}
 use Rattle.selectors.specs.declared.Direction.{Direction}
 use Rattle.selectors.specs.declared.Direction.the-variants.{Out, In}
+use Rattle.policy.specs.Words.{policyWords}
 use Rattle.policy.specs.Policy.{PolicyRow}
 use Rattle.policy_text.specs.declared.Parsed.{Parsed}
 use Rattle.policy_text.specs.declared.Parsed.the-variants.{Rows, NotHeader as NoHeader, NotEnded as NoEnd, TooMany as OverRows, BadRow as Bad, NoRoom}
 use Rattle.policy_text.specs.Format.{Policy, refused, rows}
 use Rattle.decorrelate.specs.Form.{form, formWords, directionNumber}
 use Rattle.spd_cache.specs.Cache.{emptyCache}
-use Rattle.spd_words.specs.Words.{formRoom, addressOf}
+use Rattle.spd_words.specs.Words.{addressOf}
 use Rattle.spd.specs.declared.Acceptance.{Acceptance}
 use Rattle.spd.specs.declared.Acceptance.the-variants.{Accepted, NotHeader, NotEnded, TooMany, BadRow, TooLarge}
 use Rattle.spd.specs.declared.Caches.{Caches}
@@ -20,7 +21,7 @@ use Rattle.spd.specs.declared.Settled.{Settled}
 
 -- The words, then zeros to the end of their room.
 unfoldable pub padded : List ℕ → List ℕ
-padded ws = ws ++ replicate (formRoom - length ws) 0
+padded ws = ws ++ replicate (policyWords - length ws) 0
 
 -- The words of a gateway with this address: the counts and the words of the rows for out and for in.
 abbrev pub heldWords : ℕ → ℕ → List ℕ → ℕ → List ℕ → List ℕ

@@ -5,8 +5,10 @@ use mathlib.Core.Path.{_≡_, refl, ap, _∙_}
 use mathlib.Core.List.{List, [], _∷_, _++_, append-nil}
 use lib.ListN.{length, getD, set, take, drop, replicate, length-append, length-take, length-drop, length-replicate, drop-of-length-le, List·getD-eq-default}
 use lib.Seq.{paste, take-all, take-at, getD-take}
+use Rattle.selectors.specs.declared.Direction.the-variants.{In}
+use Rattle.policy.specs.Words.{policyWords}
 use Rattle.spd.specs.Spd.{padded, heldWords}
-use Rattle.spd_words.specs.Words.{formRoom, spdSize}
+use Rattle.spd_words.specs.Words.{spdSize, rowsAt}
 
 -- A word that is not there is 0, and so are all of a list of zeros.
 zero-word : (n i : ℕ) → _≡_ {A = ℕ} (getD (replicate n 0) i 0) 0
@@ -23,16 +25,16 @@ getD-zeros (w ∷ ws) n (suc i) = getD-zeros ws n i
 module _ (ws : List ℕ) (used i : ℕ) where
   pub padded-front : i < used → getD (padded (take used ws)) i 0 ≡ getD ws i 0
   unfolding padded
-  padded-front h = getD-zeros (take used ws) (formRoom - length (take used ws)) i ∙ getD-take used ws i 0 h
+  padded-front h = getD-zeros (take used ws) (policyWords - length (take used ws)) i ∙ getD-take used ws i 0 h
 
   pub padded-rest : used ≤ i → getD (padded (take used ws)) i 0 ≡ 0
   unfolding padded
   padded-rest h =
-      getD-zeros (take used ws) (formRoom - length (take used ws)) i ∙ List·getD-eq-default (take used ws) 0 (omega (arith, length-take used ws))
+      getD-zeros (take used ws) (policyWords - length (take used ws)) i ∙ List·getD-eq-default (take used ws) 0 (omega (arith, length-take used ws))
 
-pub padded-size : (ws : List ℕ) → length ws ≤ formRoom → length (padded ws) ≡ formRoom
+pub padded-size : (ws : List ℕ) → length ws ≤ policyWords → length (padded ws) ≡ policyWords
 unfolding padded
-padded-size ws h = omega (arith, length-append ws (replicate (formRoom - length ws) 0), length-replicate {A = ℕ} (formRoom - length ws) 0)
+padded-size ws h = omega (arith, length-append ws (replicate (policyWords - length ws) 0), length-replicate {A = ℕ} (policyWords - length ws) 0)
 
 -- The first words of words with zeros after them.
 pub padded-start : (ws : List ℕ) (n : ℕ) → length ws ≡ n → take n (padded ws) ≡ ws
@@ -55,6 +57,6 @@ rooms-written k (x ∷ y ∷ z ∷ rest) address n m a b h p q =
     ∙ rw (take-at front tail (3 + k) (omega arith), take-all k b (omega arith), drop-of-length-le (front ++ tail) {i = 3 + k + k} size)
     (append-nil (front ++ b))
 
-pub held-written : (ws : List ℕ) (address n m : ℕ) (a b : List ℕ) → length ws ≡ spdSize → length a ≤ formRoom → length b ≤ formRoom
-    → paste (paste (set (set (set ws 0 address) 1 n) 2 m) 3 (padded a) formRoom) 5635 (padded b) formRoom ≡ heldWords address n a m b
-held-written ws address n m a b h p q = rooms-written formRoom ws address n m (padded a) (padded b) h (padded-size a p) (padded-size b q)
+pub held-written : (ws : List ℕ) (address n m : ℕ) (a b : List ℕ) → length ws ≡ spdSize → length a ≤ policyWords → length b ≤ policyWords
+    → paste (paste (set (set (set ws 0 address) 1 n) 2 m) 3 (padded a) policyWords) (rowsAt In) (padded b) policyWords ≡ heldWords address n a m b
+held-written ws address n m a b h p q = rooms-written policyWords ws address n m (padded a) (padded b) h (padded-size a p) (padded-size b q)

@@ -4,7 +4,7 @@ ghost use mathlib.Core.List.{[]};
 ghost use Prim.Native.Nat.{_+_, _*_, _≤_};
 ghost use lib.ListN.{length, getD, take};
 ghost use lib.Seq.{paste};
-ghost use Rattle.policy.specs.Words.{policyRows};
+ghost use Rattle.policy.specs.Words.{policyRows, policyWords, rowLimit};
 ghost use Rattle.policy_text.specs.Format.{rows, parsePolicy};
 ghost use Rattle.spd.specs.Spd.{padded, heldWords, spdWords, spdAfter, emptyCaches, answer, settled};
 ghost use Rattle.spd.specs.Steps.{FormRows};
@@ -73,8 +73,8 @@ fn padded_word(from: &[u64], used: usize, i: usize) -> u64
 
 // Writes the first `used` words of a list and zeros after them: the room for one direction, from the place `at` on.
 fn store(words: &mut [u64], at: usize, from: &[u64], used: usize)
-    requires { ⌜ (at + 5632 ≤ length (now words)) × (used ≤ 5632) × (used ≤ length (now from)) ⌝ }
-    ensures { λ _. ⌜ now (words .exit) ≡ paste (now (words .entry)) at (padded (take used (now (from .entry)))) 5632 ⌝ }
+    requires { ⌜ (at + policyWords ≤ length (now words)) × (used ≤ policyWords) × (used ≤ length (now from)) ⌝ }
+    ensures { λ _. ⌜ now (words .exit) ≡ paste (now (words .entry)) at (padded (take used (now (from .entry)))) policyWords ⌝ }
 {
     let mut i: usize = 0;
     while i < POLICY_WORDS {
@@ -92,7 +92,7 @@ fn write(
     in_count: usize,
     inbound: &[u64; POLICY_WORDS],
 )
-    requires { ⌜ («out_count» ≤ 256) × («in_count» ≤ 256) ⌝ }
+    requires { ⌜ («out_count» ≤ rowLimit) × («in_count» ≤ rowLimit) ⌝ }
     ensures { λ _. ⌜ now (words .exit) ≡ heldWords address «out_count» (take («out_count» * 22) (now (outbound .entry))) «in_count» (take («in_count» * 22) (now (inbound .entry))) ⌝ }
 {
     words[0] = address;
@@ -136,8 +136,8 @@ fn refuse(acceptance: Acceptance, caches: Caches) -> Settled
 
 // Takes the rows of a policy: both normal forms are laid out before anything lent is written.
 fn load(words: &mut [u64; SPD_WORDS], caches: Caches, policy: &[u64]) -> Settled
-    ensures { λ r. ⌜ r ≡ settled 256 caches (rows (policyRows (now (policy .entry)))) ⌝ }
-    ensures { λ _. ⌜ now (words .exit) ≡ spdAfter 256 (now (words .entry)) (rows (policyRows (now (policy .entry)))) ⌝ }
+    ensures { λ r. ⌜ r ≡ settled rowLimit caches (rows (policyRows (now (policy .entry)))) ⌝ }
+    ensures { λ _. ⌜ now (words .exit) ≡ spdAfter rowLimit (now (words .entry)) (rows (policyRows (now (policy .entry)))) ⌝ }
 {
     let mut outbound = [0u64; POLICY_WORDS];
     let out_form = lay_out(policy, Direction::Out, &mut outbound);
@@ -160,8 +160,8 @@ fn load(words: &mut [u64; SPD_WORDS], caches: Caches, policy: &[u64]) -> Settled
 // The policy of a policy file replaces the one that the gateway holds, and empties the caches; a refusal changes nothing.
 // (There is room for the limit's rows.)
 pub fn accept(words: &mut [u64; SPD_WORDS], caches: Caches, bytes: &[u8]) -> Settled
-    ensures { λ r. ⌜ r ≡ settled 256 caches (parsePolicy 256 (now (bytes .entry))) ⌝ }
-    ensures { λ _. ⌜ now (words .exit) ≡ spdAfter 256 (now (words .entry)) (parsePolicy 256 (now (bytes .entry))) ⌝ }
+    ensures { λ r. ⌜ r ≡ settled rowLimit caches (parsePolicy rowLimit (now (bytes .entry))) ⌝ }
+    ensures { λ _. ⌜ now (words .exit) ≡ spdAfter rowLimit (now (words .entry)) (parsePolicy rowLimit (now (bytes .entry))) ⌝ }
 {
     let mut policy = [0u64; POLICY_WORDS];
     let parsed = policy_parse::parse(bytes, LIMIT, &mut policy);

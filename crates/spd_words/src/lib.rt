@@ -1,6 +1,7 @@
 // What a gateway holds of its policy, in lent words: its own address, and the normal-form rows of both directions (document 01).
 ghost use mathlib.Core.Path.{_≡_};
 ghost use Prim.Native.Nat.{_≤_, _<_, min};
+ghost use Rattle.policy.specs.Words.{rowLimit};
 ghost use Rattle.spd_words.specs.Words.{addressOf, countAt, rowsAt, rowsOf};
 use policy::LIMIT;
 use policy::POLICY_WORDS;
@@ -25,7 +26,7 @@ fn count_at(direction: Direction) -> usize
 }
 
 fn rows_at(direction: Direction) -> usize
-    ensures { λ r. ⌜ (r ≡ rowsAt direction) × (r ≤ 5635) ⌝ }
+    ensures { λ r. ⌜ (r ≡ rowsAt direction) × (r ≤ rowsAt Direction.In) ⌝ }
 {
     match direction {
         Direction::Out => OUT_ROWS,
@@ -35,7 +36,7 @@ fn rows_at(direction: Direction) -> usize
 
 // A count of rows, never more than there is room for.
 fn capped(count: u64) -> usize
-    ensures { λ r. ⌜ r ≡ min count 256 ⌝ }
+    ensures { λ r. ⌜ r ≡ min count rowLimit ⌝ }
 {
     if count < LIMIT as u64 {
         count as usize

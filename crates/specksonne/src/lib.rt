@@ -5,7 +5,7 @@ ghost use lib.ListN.{length, replicate};
 ghost use Rattle.selectors.specs.Value.{combination};
 ghost use Rattle.packet.specs.Read.{readPacket};
 ghost use Rattle.policy.specs.Policy.{orderedSearch, matchFrom};
-ghost use Rattle.policy.specs.Words.{policyRows};
+ghost use Rattle.policy.specs.Words.{policyRows, rowLimit};
 ghost use Rattle.row_records.specs.Records.{rowOf};
 ghost use Rattle.policy_text.specs.Format.{parsePolicy};
 ghost use Rattle.policy_parse.specs.Parsing.{parsedIn, parsedRoom, parsedNumber};
@@ -28,11 +28,12 @@ use policy::LIMIT;
 use row_records::Row;
 use selectors::Direction;
 use spd::Caches;
+use spd_words::SPD_WORDS;
 
 // A fresh gateway (`spd::fresh`): its address, 'the policy without rows, no pair and empty caches'.
 #[no_mangle]
 pub extern "C" fn specksonne_fresh(
-    policy: &mut [u64; 11267],
+    policy: &mut [u64; SPD_WORDS],
     table: &mut [u64; 1536],
     outbound: &mut [u64; 706],
     inbound: &mut [u64; 706],
@@ -53,17 +54,17 @@ pub extern "C" fn specksonne_fresh(
 // Hands a policy file to the gateway (`spd::accept`).
 #[no_mangle]
 pub extern "C" fn specksonne_policy(
-    policy: &mut [u64; 11267],
+    policy: &mut [u64; SPD_WORDS],
     outbound: &mut [u64; 706],
     inbound: &mut [u64; 706],
     bytes: &[u8],
     carries: &mut u64,
 ) -> u64
-    ensures { λ r. ⌜ r ≡ acceptanceNumber (accepting 256 (parsePolicy 256 (now (bytes .entry)))) ⌝ }
-    ensures { λ _. ⌜ now (policy .exit) ≡ spdAfter 256 (now (policy .entry)) (parsePolicy 256 (now (bytes .entry))) ⌝ }
-    ensures { λ _. ⌜ now (outbound .exit) ≡ cacheWords (cachesAfter 256 (cachesFrom (now (outbound .entry)) (now (inbound .entry))) (parsePolicy 256 (now (bytes .entry))) .outbound) ⌝ }
-    ensures { λ _. ⌜ now (inbound .exit) ≡ cacheWords (cachesAfter 256 (cachesFrom (now (outbound .entry)) (now (inbound .entry))) (parsePolicy 256 (now (bytes .entry))) .inbound) ⌝ }
-    ensures { λ _. ⌜ now (carries .exit) ≡ acceptanceCarries (accepting 256 (parsePolicy 256 (now (bytes .entry)))) ⌝ }
+    ensures { λ r. ⌜ r ≡ acceptanceNumber (accepting rowLimit (parsePolicy rowLimit (now (bytes .entry)))) ⌝ }
+    ensures { λ _. ⌜ now (policy .exit) ≡ spdAfter rowLimit (now (policy .entry)) (parsePolicy rowLimit (now (bytes .entry))) ⌝ }
+    ensures { λ _. ⌜ now (outbound .exit) ≡ cacheWords (cachesAfter rowLimit (cachesFrom (now (outbound .entry)) (now (inbound .entry))) (parsePolicy rowLimit (now (bytes .entry))) .outbound) ⌝ }
+    ensures { λ _. ⌜ now (inbound .exit) ≡ cacheWords (cachesAfter rowLimit (cachesFrom (now (outbound .entry)) (now (inbound .entry))) (parsePolicy rowLimit (now (bytes .entry))) .inbound) ⌝ }
+    ensures { λ _. ⌜ now (carries .exit) ≡ acceptanceCarries (accepting rowLimit (parsePolicy rowLimit (now (bytes .entry)))) ⌝ }
 {
     let before = Caches {
         outbound: cache_in_place::load(outbound),
@@ -175,9 +176,9 @@ pub extern "C" fn specksonne_first_match(
 // Parses a policy file into words of rows (`policy_parse::parse`).
 #[no_mangle]
 pub extern "C" fn specksonne_parse(bytes: &[u8], rows: &mut [u64], carries: &mut u64) -> u64
-    ensures { λ r. ⌜ r ≡ parsedNumber (parsedIn (length (now (rows .entry))) (parsePolicy 256 (now (bytes .entry)))) ⌝ }
-    ensures { λ _. ⌜ now (rows .exit) ≡ parsedRoom (now (rows .entry)) (parsePolicy 256 (now (bytes .entry))) ⌝ }
-    ensures { λ _. ⌜ now (carries .exit) ≡ parsedCarries (parsedIn (length (now (rows .entry))) (parsePolicy 256 (now (bytes .entry)))) ⌝ }
+    ensures { λ r. ⌜ r ≡ parsedNumber (parsedIn (length (now (rows .entry))) (parsePolicy rowLimit (now (bytes .entry)))) ⌝ }
+    ensures { λ _. ⌜ now (rows .exit) ≡ parsedRoom (now (rows .entry)) (parsePolicy rowLimit (now (bytes .entry))) ⌝ }
+    ensures { λ _. ⌜ now (carries .exit) ≡ parsedCarries (parsedIn (length (now (rows .entry))) (parsePolicy rowLimit (now (bytes .entry)))) ⌝ }
 {
     let parsed = policy_parse::parse(bytes, LIMIT, rows);
     *carries = answer_numbers::parsed_carries(parsed);
@@ -209,9 +210,9 @@ pub extern "C" fn specksonne_normalise(
     out: &mut [u8],
     carries: &mut u64,
 ) -> u64
-    ensures { λ r. ⌜ r ≡ normalisedNumber (normalised 256 (directionFrom direction) (length (now (out .entry))) (parsePolicy 256 (now (bytes .entry)))) ⌝ }
-    ensures { λ _. ⌜ now (out .exit) ≡ normalisedBytes 256 (directionFrom direction) (now (out .entry)) (parsePolicy 256 (now (bytes .entry))) ⌝ }
-    ensures { λ _. ⌜ now (carries .exit) ≡ normalisedCarries (normalised 256 (directionFrom direction) (length (now (out .entry))) (parsePolicy 256 (now (bytes .entry)))) ⌝ }
+    ensures { λ r. ⌜ r ≡ normalisedNumber (normalised rowLimit (directionFrom direction) (length (now (out .entry))) (parsePolicy rowLimit (now (bytes .entry)))) ⌝ }
+    ensures { λ _. ⌜ now (out .exit) ≡ normalisedBytes rowLimit (directionFrom direction) (now (out .entry)) (parsePolicy rowLimit (now (bytes .entry))) ⌝ }
+    ensures { λ _. ⌜ now (carries .exit) ≡ normalisedCarries (normalised rowLimit (directionFrom direction) (length (now (out .entry))) (parsePolicy rowLimit (now (bytes .entry)))) ⌝ }
 {
     let normalised = normaliser::normalise(bytes, abi::direction_from(direction), out);
     *carries = answer_numbers::normalised_carries(normalised);
@@ -226,8 +227,8 @@ pub extern "C" fn specksonne_same(
     direction: u64,
     carries: &mut [u64; 2],
 ) -> u64
-    ensures { λ r. ⌜ r ≡ comparedNumber (compared (directionFrom direction) (parsePolicy 256 (now (first .entry))) (parsePolicy 256 (now (second .entry)))) ⌝ }
-    ensures { λ _. ⌜ now (carries .exit) ≡ comparedWords (compared (directionFrom direction) (parsePolicy 256 (now (first .entry))) (parsePolicy 256 (now (second .entry)))) ⌝ }
+    ensures { λ r. ⌜ r ≡ comparedNumber (compared (directionFrom direction) (parsePolicy rowLimit (now (first .entry))) (parsePolicy rowLimit (now (second .entry)))) ⌝ }
+    ensures { λ _. ⌜ now (carries .exit) ≡ comparedWords (compared (directionFrom direction) (parsePolicy rowLimit (now (first .entry))) (parsePolicy rowLimit (now (second .entry)))) ⌝ }
 {
     let compared = same_policy::same_policy(first, second, abi::direction_from(direction));
     *carries = answer_numbers::compared_carries(compared);
@@ -271,7 +272,7 @@ pub extern "C" fn specksonne_is_live(table: &[u64; 1536], protocol: u64, spi_in:
 // A packet going out (`gateway_in_place::outbound`).
 #[no_mangle]
 pub extern "C" fn specksonne_outbound(
-    policy: &[u64; 11267],
+    policy: &[u64; SPD_WORDS],
     table: &[u64; 1536],
     cache: &mut [u64; 706],
     bytes: &[u8],
@@ -289,7 +290,7 @@ pub extern "C" fn specksonne_outbound(
 // A packet coming in from outside (`gateway_in_place::inbound`).
 #[no_mangle]
 pub extern "C" fn specksonne_inbound(
-    policy: &[u64; 11267],
+    policy: &[u64; SPD_WORDS],
     table: &[u64; 1536],
     cache: &mut [u64; 706],
     bytes: &[u8],

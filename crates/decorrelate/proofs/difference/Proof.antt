@@ -7,7 +7,7 @@ use lib.ListN.{length, length-take, replicate}
 use denote.Ref.{now}
 use borrow.Author.Needs.{needs}
 use Rattle.normal_form.specs.Search.{Row}
-use Rattle.policy.specs.Words.{policyRows}
+use Rattle.policy.specs.Words.{policyRows, policyWords}
 use Rattle.layout.specs.Parting.{Parting}
 use Rattle.layout.specs.Laid.{sizesOf, Outcome}
 use Rattle.prune.specs.Prune.{Outcome as Pruning}
@@ -18,12 +18,12 @@ use Rattle.decorrelate.proofs.difference.Statement.{statement}
 use Rattle.decorrelate.proofs.difference.Tie as tie
 
 -- What pruning says of the rows that it leaves.
-kept : (c : tie.After-pruned) → Pruning (c .before .before .before .before .before .before .before .before .args .direction) (now (c .before .before .before .before .before .before .before .before .args .first)) (replicate 5632 0) (c .before .before .before .prune .last .1 .1 .0) (Rows (c .pruned .given .0 .0))
+kept : (c : tie.After-pruned) → Pruning (c .before .before .before .before .before .before .before .before .args .direction) (now (c .before .before .before .before .before .before .before .before .args .first)) (replicate policyWords 0) (c .before .before .before .prune .last .1 .1 .0) (Rows (c .pruned .given .0 .0))
 kept c =
     let p = c .before .before .before in
-    subst (Pruning (p .before .before .before .before .before .args .direction) (now (p .before .before .before .before .before .args .first)) (replicate 5632 0) (p .prune .last .1 .1 .0)) (c .pruned .given .1) (p .prune .ensures)
+    subst (Pruning (p .before .before .before .before .before .args .direction) (now (p .before .before .before .before .before .args .first)) (replicate policyWords 0) (p .prune .last .1 .1 .0)) (c .pruned .given .1) (p .prune .ensures)
 
-size : (c : tie.After-prune) → length (c .prune .last .1 .1 .0) ≡ 5632
+size : (c : tie.After-prune) → length (c .prune .last .1 .1 .0) ≡ policyWords
 size c = search needs
 
 fits : (c : tie.After-pruned) → c .pruned .given .0 .0 * 22 ≤ length (c .before .before .before .prune .last .1 .1 .0)

@@ -2,6 +2,7 @@
 use mathlib.Core.Path.{refl}
 use denote.Ref.{now}
 use borrow.Author.Needs.{needs}
+use Rattle.policy.specs.Words.{rowLimit}
 use Rattle.decorrelate.specs.FormLaws.{ipv4-highest, form-outcome}
 use Rattle.decorrelate.proofs.normal_form.Statement.{statement}
 use Rattle.decorrelate.proofs.normal_form.Tie as tie
@@ -18,7 +19,7 @@ same-length c = search needs
 returns : tie.Need-returns
 returns c =
     let a = c .before .before .before .before .before .before .before .args in
-    form-outcome 256 (a .direction) (now (a .rows)) _ (now (a .room)) _ _ (search needs) (c .before .before .difference .ensures) (ipv4-highest _ refl)
+    form-outcome rowLimit (a .direction) (now (a .rows)) _ (now (a .room)) _ _ (search needs) (c .before .before .difference .ensures) (ipv4-highest _ refl)
 
 pub normal-form-spec : {M : Type 1} → statement M
 normal-form-spec =

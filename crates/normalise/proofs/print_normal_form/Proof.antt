@@ -3,6 +3,7 @@ use Prim.Native.Nat.{_≤_}
 use native.Mathlib.Omega.{arith}
 use mathlib.Core.Path.{subst}
 use lib.ListN.{length, length-take}
+use Rattle.policy.specs.Words.{rowLimit}
 use Rattle.policy_text.specs.Format.{parsePolicy}
 use Rattle.normaliser.specs.declared.Normalised.the-variants.{Printed}
 use Rattle.normalise.specs.Room.{Answered, printed-within, printed-file}
@@ -12,11 +13,11 @@ use Rattle.normalise.proofs.print_normal_form.Tie as tie
 
 -- What was answered, where it is a print.
 printed : (c : tie.After-known-told)
-    → Answered (c .before .before .before .before .before .before .args .direction) (parsePolicy 256 (c .before .before .before .before .before .before .args .policy .now)) (c .before .before .before .normal-form .last .1 .1 .0) (Printed (c .before .answer .given .0 .0))
+    → Answered (c .before .before .before .before .before .before .args .direction) (parsePolicy rowLimit (c .before .before .before .before .before .before .args .policy .now)) (c .before .before .before .normal-form .last .1 .1 .0) (Printed (c .before .answer .given .0 .0))
 printed c =
     let a = c .before .before .before .before .before .before .args in
     let n = c .before .before .before .normal-form in
-    subst (Answered (a .direction) (parsePolicy 256 (a .policy .now)) (n .last .1 .1 .0)) (c .before .answer .given .1) (n .ensures .1)
+    subst (Answered (a .direction) (parsePolicy rowLimit (a .policy .now)) (n .last .1 .1 .0)) (c .before .answer .given .1) (n .ensures .1)
 
 fits : (c : tie.After-known-told) → c .before .answer .given .0 .0 ≤ length (c .before .before .before .normal-form .last .1 .1 .0)
 fits c = printed-within _ _ _ _ (printed c)

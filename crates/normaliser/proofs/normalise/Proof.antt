@@ -5,6 +5,7 @@ use mathlib.Core.Path.{_≡_, refl, sym, ap, subst, _∙_}
 use mathlib.Core.List.{List}
 use lib.ListN.{length, length-take}
 use denote.Ref.{now}
+use Rattle.policy.specs.Words.{rowLimit}
 use Rattle.policy_text.specs.declared.Parsed.{Parsed}
 use Rattle.policy_text.specs.declared.Parsed.the-variants.{Rows, NotHeader, NotEnded, TooMany, BadRow, NoRoom}
 use Rattle.normaliser.specs.Normalise.{normalised, normalisedBytes}
@@ -14,12 +15,12 @@ use Rattle.normaliser.proofs.normalise.Statement.{statement}
 use Rattle.normaliser.proofs.normalise.Tie as tie
 
 -- What the parser's answer says of the file.
-says : (c : tie.After-parse) (p : Parsed) → c .parse .result ≡ p → Told 256 (now (c .before .before .before .before .args .bytes)) (c .parse .last .1 .1 .0) p
+says : (c : tie.After-parse) (p : Parsed) → c .parse .result ≡ p → Told rowLimit (now (c .before .before .before .before .args .bytes)) (c .parse .last .1 .1 .0) p
 says c p e =
     let s = now (c .before .before .before .before .args .bytes) in
-    subst (λ (room : List ℕ). Told 256 s room p) (sym (c .parse .ensures .1)) (told 256 s _ (search needs) p (sym e ∙ c .parse .ensures .0))
+    subst (λ (room : List ℕ). Told rowLimit s room p) (sym (c .parse .ensures .1)) (told rowLimit s _ (search needs) p (sym e ∙ c .parse .ensures .0))
 
-got : (c : tie.After-parsed) → Taken 256 (now (c .before .before .before .before .before .before .before .args .bytes)) (c .parsed .given .0 .0) (c .before .before .before .parse .last .1 .1 .0)
+got : (c : tie.After-parsed) → Taken rowLimit (now (c .before .before .before .before .before .before .before .args .bytes)) (c .parsed .given .0 .0) (c .before .before .before .parse .last .1 .1 .0)
 unfolding Told
 got c = says (c .before .before .before) (Rows (c .parsed .given .0 .0)) (c .parsed .given .1)
 
@@ -71,8 +72,8 @@ returns c =
     let s = k .before .before .before .before .before .before .before in
     let e = c .before .before .print-form .ensures in
     let t = got k in (
-      e .0 ∙ ap (normalised 256 (s .args .direction) (length (now (s .args .out)))) (sym (t .is)),
-      e .1 ∙ ap (normalisedBytes 256 (s .args .direction) (now (s .args .out))) (sym (t .is)),
+      e .0 ∙ ap (normalised rowLimit (s .args .direction) (length (now (s .args .out)))) (sym (t .is)),
+      e .1 ∙ ap (normalisedBytes rowLimit (s .args .direction) (now (s .args .out))) (sym (t .is)),
     )
 
 returns-2 : tie.Need-returns-2

@@ -5,7 +5,7 @@ use mathlib.Core.List.{List}
 use lib.ListN.{length, length-take}
 use denote.Ref.{now}
 use borrow.Author.Needs.{needs}
-use Rattle.policy.specs.Words.{policyRows}
+use Rattle.policy.specs.Words.{policyRows, rowLimit}
 use Rattle.policy_print.specs.Printing.{printedIn, printedRoom}
 use Rattle.layout.specs.declared.Laid.{Laid}
 use Rattle.layout.specs.declared.Laid.the-variants.{Rows, Over, NoRoom}
@@ -16,13 +16,13 @@ use Rattle.normaliser.proofs.print_form.Tie as tie
 
 -- The layout's answer, with room for the limit: the words of the normal form, or that it has too many rows.
 laid : (c : tie.After-normal-form) (r : Laid) → c .normal-form .result ≡ r
-    → Laying 256 (c .before .before .before .before .args .direction) (policyRows (now (c .before .before .before .before .args .policy))) (c .normal-form .last .1 .1 .0) r
+    → Laying rowLimit (c .before .before .before .before .args .direction) (policyRows (now (c .before .before .before .before .args .policy))) (c .normal-form .last .1 .1 .0) r
 laid c r e =
     let s = c .before .before .before .before in
-    subst (Laying 256 (s .args .direction) (policyRows (now (s .args .policy))) (c .normal-form .last .1 .1 .0)) e
-    (laying 256 (s .args .direction) (policyRows (now (s .args .policy))) _ _ _ (search needs) (c .normal-form .ensures))
+    subst (Laying rowLimit (s .args .direction) (policyRows (now (s .args .policy))) (c .normal-form .last .1 .1 .0)) e
+    (laying rowLimit (s .args .direction) (policyRows (now (s .args .policy))) _ _ _ (search needs) (c .normal-form .ensures))
 
-few : (c : tie.After-laid) → c .laid .given .0 .0 ≤ 256
+few : (c : tie.After-laid) → c .laid .given .0 .0 ≤ rowLimit
 unfolding Laying
 few c = laid (c .before .before .before) (Rows (c .laid .given .0 .0)) (c .laid .given .1) .0
 
@@ -67,14 +67,14 @@ returns c =
     let e = c .before .before .print-rows .ensures in
     let k = laid (l .before .before .before) (Rows (l .laid .given .0 .0)) (l .laid .given .1) in
     let f = printed-form d rs _ (k .2) in
-    let p = printing 256 d rs out (rw (k .1) at (k .0)) in
+    let p = printing rowLimit d rs out (rw (k .1) at (k .0)) in
     (e .0 ∙ ap (λ (t : List ℕ). answered (printedIn (length out) t)) f ∙ p .0, e .1 ∙ ap (printedRoom out) f ∙ p .1)
 
 returns-2 : tie.Need-returns-2
 unfolding Laying
 returns-2 c =
     let s = c .before .before .before .before .before .before .before in
-    too-large 256 (s .args .direction) (policyRows (now (s .args .policy))) (now (s .args .out))
+    too-large rowLimit (s .args .direction) (policyRows (now (s .args .policy))) (now (s .args .out))
     (laid (c .before .before .before) Over (c .enum-told .given .1))
 
 returns-3 : tie.Need-returns-3

@@ -5,6 +5,7 @@ use native.Mathlib.Omega.{arith}
 use mathlib.Core.Path.{_≡_, refl, sym, _∙_}
 use lib.ListN.{length, length-set, length-map}
 use borrow.Author.Needs.{needs}
+use Rattle.policy.specs.Words.{rowLimit}
 use Rattle.prune.specs.BoxLaws.{hits-start, hits-then, hits-turn, surveyed-to, surveyed-all}
 use Rattle.prune.specs.Boxes.{SameHits}
 use Rattle.prune.proofs.survey.Statement.{statement}
@@ -14,7 +15,7 @@ use Rattle.prune.proofs.survey.Tie as tie
 -- The measure is the count of the rows not looked at. Assumes nothing.
 
 abbrev Inv-loop : tie.InvT-loop
-Inv-loop rows bounds direction by-size count r near₀ split₀ row₀ near split row = (row ≤ count) × ((length (near .on) ≡ 256) × SameHits direction rows (bounds .words) (near₀ .on) (near .on))
+Inv-loop rows bounds direction by-size count r near₀ split₀ row₀ near split row = (row ≤ count) × ((length (near .on) ≡ rowLimit) × SameHits direction rows (bounds .words) (near₀ .on) (near .on))
 
 abbrev μ-loop : tie.MeasureT-loop
 μ-loop rows bounds direction by-size count r near₀ split₀ row₀ near split row = count - row

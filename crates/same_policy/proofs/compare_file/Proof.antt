@@ -6,7 +6,7 @@ use mathlib.Core.List.{List}
 use lib.ListN.{length, length-take}
 use denote.Ref.{now}
 use borrow.Author.Needs.{needs}
-use Rattle.policy.specs.Words.{policyRows}
+use Rattle.policy.specs.Words.{policyRows, rowLimit}
 use Rattle.policy_text.specs.Format.{Policy, rows}
 use Rattle.policy_text.specs.declared.Parsed.{Parsed}
 use Rattle.policy_text.specs.declared.Parsed.the-variants.{Rows, NotHeader, NotEnded, TooMany, BadRow, NoRoom}
@@ -16,12 +16,12 @@ use Rattle.same_policy.proofs.compare_file.Statement.{statement}
 use Rattle.same_policy.proofs.compare_file.Tie as tie
 
 -- What the parser's answer says of the file.
-says : (c : tie.After-parse) (p : Parsed) → c .parse .result ≡ p → Told 256 (now (c .before .before .before .before .args .second)) (c .parse .last .1 .1 .0) p
+says : (c : tie.After-parse) (p : Parsed) → c .parse .result ≡ p → Told rowLimit (now (c .before .before .before .before .args .second)) (c .parse .last .1 .1 .0) p
 says c p e =
     let s = now (c .before .before .before .before .args .second) in
-    subst (λ (room : List ℕ). Told 256 s room p) (sym (c .parse .ensures .1)) (told 256 s _ (search needs) p (sym e ∙ c .parse .ensures .0))
+    subst (λ (room : List ℕ). Told rowLimit s room p) (sym (c .parse .ensures .1)) (told rowLimit s _ (search needs) p (sym e ∙ c .parse .ensures .0))
 
-got : (c : tie.After-parsed) → Taken 256 (now (c .before .before .before .before .before .before .before .args .second)) (c .parsed .given .0 .0) (c .before .before .before .parse .last .1 .1 .0)
+got : (c : tie.After-parsed) → Taken rowLimit (now (c .before .before .before .before .before .before .before .args .second)) (c .parsed .given .0 .0) (c .before .before .before .parse .last .1 .1 .0)
 unfolding Told
 got c = says (c .before .before .before) (Rows (c .parsed .given .0 .0)) (c .parsed .given .1)
 

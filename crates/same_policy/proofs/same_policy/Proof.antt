@@ -6,6 +6,7 @@ use mathlib.Core.List.{List}
 use lib.ListN.{length, length-take}
 use denote.Ref.{now}
 use borrow.Author.Needs.{needs}
+use Rattle.policy.specs.Words.{rowLimit}
 use Rattle.policy_text.specs.Format.{Policy, parsePolicy}
 use Rattle.policy_text.specs.declared.Parsed.{Parsed}
 use Rattle.policy_text.specs.declared.Parsed.the-variants.{Rows, NotHeader, NotEnded, TooMany, BadRow, NoRoom}
@@ -15,12 +16,12 @@ use Rattle.same_policy.proofs.same_policy.Statement.{statement}
 use Rattle.same_policy.proofs.same_policy.Tie as tie
 
 -- What the parser's answer says of the file.
-says : (c : tie.After-parse) (p : Parsed) → c .parse .result ≡ p → Told 256 (now (c .before .before .before .before .args .first)) (c .parse .last .1 .1 .0) p
+says : (c : tie.After-parse) (p : Parsed) → c .parse .result ≡ p → Told rowLimit (now (c .before .before .before .before .args .first)) (c .parse .last .1 .1 .0) p
 says c p e =
     let s = now (c .before .before .before .before .args .first) in
-    subst (λ (room : List ℕ). Told 256 s room p) (sym (c .parse .ensures .1)) (told 256 s _ (search needs) p (sym e ∙ c .parse .ensures .0))
+    subst (λ (room : List ℕ). Told rowLimit s room p) (sym (c .parse .ensures .1)) (told rowLimit s _ (search needs) p (sym e ∙ c .parse .ensures .0))
 
-got : (c : tie.After-parsed) → Taken 256 (now (c .before .before .before .before .before .before .before .args .first)) (c .parsed .given .0 .0) (c .before .before .before .parse .last .1 .1 .0)
+got : (c : tie.After-parsed) → Taken rowLimit (now (c .before .before .before .before .before .before .before .args .first)) (c .parsed .given .0 .0) (c .before .before .before .parse .last .1 .1 .0)
 unfolding Told
 got c = says (c .before .before .before) (Rows (c .parsed .given .0 .0)) (c .parsed .given .1)
 
@@ -67,7 +68,7 @@ returns : tie.Need-returns
 returns c =
     let k = c .before .before .before in
     let s = k .before .before .before .before .before .before .before in
-    c .compare-file .ensures ∙ ap (λ (f : Policy). compared (s .args .direction) f (parsePolicy 256 (now (s .args .second)))) (sym (got k .is))
+    c .compare-file .ensures ∙ ap (λ (f : Policy). compared (s .args .direction) f (parsePolicy rowLimit (now (s .args .second)))) (sym (got k .is))
 
 returns-2 : tie.Need-returns-2
 unfolding Told

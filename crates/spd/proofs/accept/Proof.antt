@@ -5,6 +5,7 @@ use mathlib.Core.Path.{_≡_, refl, sym, ap, subst, _∙_}
 use mathlib.Core.List.{List}
 use denote.Ref.{now}
 use lib.ListN.{length, length-take}
+use Rattle.policy.specs.Words.{rowLimit}
 use Rattle.policy_text.specs.declared.Parsed.{Parsed}
 use Rattle.policy_text.specs.declared.Parsed.the-variants.{Rows, NotHeader, NotEnded, TooMany, BadRow, NoRoom}
 use Rattle.policy_parse.specs.Taken.{Taken, Told, told}
@@ -14,12 +15,12 @@ use Rattle.spd.proofs.accept.Statement.{statement}
 use Rattle.spd.proofs.accept.Tie as tie
 
 -- What the parser's answer says of the file.
-says : (c : tie.After-parse) (p : Parsed) → c .parse .result ≡ p → Told 256 (now (c .before .before .before .args .bytes)) (c .parse .last .1 .1 .0) p
+says : (c : tie.After-parse) (p : Parsed) → c .parse .result ≡ p → Told rowLimit (now (c .before .before .before .args .bytes)) (c .parse .last .1 .1 .0) p
 says c p e =
     let s = now (c .before .before .before .args .bytes) in
-    subst (λ (room : List ℕ). Told 256 s room p) (sym (c .parse .ensures .1)) (told 256 s _ (search needs) p (sym e ∙ c .parse .ensures .0))
+    subst (λ (room : List ℕ). Told rowLimit s room p) (sym (c .parse .ensures .1)) (told rowLimit s _ (search needs) p (sym e ∙ c .parse .ensures .0))
 
-got : (c : tie.After-parsed) → Taken 256 (now (c .before .before .before .before .before .before .args .bytes)) (c .parsed .given .0 .0) (c .before .before .before .parse .last .1 .1 .0)
+got : (c : tie.After-parsed) → Taken rowLimit (now (c .before .before .before .before .before .before .args .bytes)) (c .parsed .given .0 .0) (c .before .before .before .parse .last .1 .1 .0)
 unfolding Told
 got c = says (c .before .before .before) (Rows (c .parsed .given .0 .0)) (c .parsed .given .1)
 
@@ -82,8 +83,8 @@ returns c =
     let l = c .before .before .before .before in
     let s = l .before .before .before .before .before .before in
     let e = c .load .ensures in (
-      e .0 ∙ ap (settled 256 (s .args .caches)) (sym (got l .is)),
-      e .1 ∙ ap (spdAfter 256 (now (s .args .words))) (sym (got l .is)),
+      e .0 ∙ ap (settled rowLimit (s .args .caches)) (sym (got l .is)),
+      e .1 ∙ ap (spdAfter rowLimit (now (s .args .words))) (sym (got l .is)),
     )
 
 returns-2 : tie.Need-returns-2

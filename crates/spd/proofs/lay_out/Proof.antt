@@ -4,7 +4,7 @@ use native.Mathlib.Omega.{arith}
 use mathlib.Core.Path.{_≡_, ap, subst, _∙_}
 use denote.Ref.{now}
 use lib.ListN.{take}
-use Rattle.policy.specs.Words.{policyRows}
+use Rattle.policy.specs.Words.{policyRows, rowLimit}
 use Rattle.layout.specs.declared.Laid.{Laid}
 use Rattle.layout.specs.declared.Laid.the-variants.{Rows, Over, NoRoom}
 use Rattle.decorrelate.specs.FormLaws.{Laying, laying}
@@ -15,13 +15,13 @@ use Rattle.spd.proofs.lay_out.Tie as tie
 
 -- The layout's answer, with room for the limit: the rows of the normal form, or that there are too many.
 laid : (c : tie.After-normal-form) (r : Laid) → c .normal-form .result ≡ r
-    → Laying 256 (c .before .before .before .args .direction) (policyRows (now (c .before .before .before .args .policy))) (c .normal-form .last .1 .1 .0) r
+    → Laying rowLimit (c .before .before .before .args .direction) (policyRows (now (c .before .before .before .args .policy))) (c .normal-form .last .1 .1 .0) r
 laid c r e =
     let s = c .before .before .before in
-    subst (Laying 256 (s .args .direction) (policyRows (now (s .args .policy))) (c .normal-form .last .1 .1 .0)) e
-    (laying 256 (s .args .direction) (policyRows (now (s .args .policy))) _ _ _ (search needs) (c .normal-form .ensures))
+    subst (Laying rowLimit (s .args .direction) (policyRows (now (s .args .policy))) (c .normal-form .last .1 .1 .0)) e
+    (laying rowLimit (s .args .direction) (policyRows (now (s .args .policy))) _ _ _ (search needs) (c .normal-form .ensures))
 
-few : (c : tie.After-laid) → c .laid .given .0 .0 ≤ 256
+few : (c : tie.After-laid) → c .laid .given .0 .0 ≤ rowLimit
 unfolding Laying
 few c = laid (c .before .before .before) (Rows (c .laid .given .0 .0)) (c .laid .given .1) .0
 

@@ -6,6 +6,7 @@ use mathlib.Core.Path.{_≡_, refl, _∙_}
 use denote.Ref.{now}
 use lib.ListN.{length, take, length-set, length-take}
 use lib.Seq.{paste, paste-zero, paste-suc}
+use Rattle.policy.specs.Words.{policyWords}
 use Rattle.spd.specs.Spd.{padded}
 use Rattle.spd.specs.StoreLaws.{padded-size}
 use borrow.Author.Needs.{needs}
@@ -13,10 +14,10 @@ use Rattle.spd.proofs.store.Statement.{statement}
 use Rattle.spd.proofs.store.Tie as tie
 
 abbrev Inv-loop : tie.InvT-loop
-Inv-loop words₀ at from used i₀ words i = (i ≤ 5632) × (words ≡ paste words₀ at (padded (take used from)) i) × (length words ≡ length words₀)
+Inv-loop words₀ at from used i₀ words i = (i ≤ policyWords) × (words ≡ paste words₀ at (padded (take used from)) i) × (length words ≡ length words₀)
 
 abbrev μ-loop : tie.MeasureT-loop
-μ-loop words₀ at from used i₀ words i = 5632 - i
+μ-loop words₀ at from used i₀ words i = policyWords - i
 
 loop-holds : tie.Need-loop-holds Inv-loop μ-loop
 loop-holds c =
@@ -45,7 +46,7 @@ loop-again : tie.Need-loop-again Inv-loop μ-loop
 loop-again c =
     let s = c .before .before .before .before .before in
     let ws = take (s .args .used) (now (s .args .from)) in
-    let size : length (padded ws) ≡ 5632 = padded-size ws (omega (arith, length-take (s .args .used) (now (s .args .from)))) in (
+    let size : length (padded ws) ≡ policyWords = padded-size ws (omega (arith, length-take (s .args .used) (now (s .args .from)))) in (
       search needs,
       rw (c .before .before .loop .inv .1, c .padded-word .ensures, add-one)
           (paste-suc (now (s .args .words)) (s .args .at) (padded ws) (c .before .before .loop .i) 0 (omega arith) (omega arith)),
@@ -56,7 +57,7 @@ same-length : tie.Need-same-length Inv-loop μ-loop
 same-length c = search needs
 
 returns : tie.Need-returns Inv-loop μ-loop
-returns c = let e : c .before .loop .i ≡ 5632 = omega arith in c .before .loop .inv .1 ∙ rw e
+returns c = let e : c .before .loop .i ≡ policyWords = omega arith in c .before .loop .inv .1 ∙ rw e
 
 pub store-spec : {M : Type 1} → statement M
 store-spec =

@@ -6,6 +6,9 @@ use mathlib.Core.List.{List}
 use denote.Ref.{now}
 use lib.ListN.{take, length-take, length-set}
 use lib.Seq.{paste}
+use Rattle.selectors.specs.declared.Direction.the-variants.{In}
+use Rattle.spd_words.specs.Words.{rowsAt}
+use Rattle.policy.specs.Words.{policyWords}
 use Rattle.spd.specs.Spd.{padded}
 use Rattle.spd.specs.StoreLaws.{held-written}
 use borrow.Author.Needs.{needs}
@@ -39,7 +42,7 @@ returns c =
     let a = take (s .args .out-count * 22) (now (s .args .outbound)) in
     let b = take (s .args .in-count * 22) (now (s .args .inbound)) in
     c .store2 .ensures
-    ∙ ap (λ (t : List ℕ). paste t 5635 (padded b) 5632) (c .before .before .before .store .ensures)
+    ∙ ap (λ (t : List ℕ). paste t (rowsAt In) (padded b) policyWords) (c .before .before .before .store .ensures)
     ∙ held-written (now (s .args .words)) (s .args .address) (s .args .out-count) (s .args .in-count) a b
     (simp length-set at (c .before .before .before .before .before .store-arg .given .0 .1))
     (omega (arith, length-take (s .args .out-count * 22) (now (s .args .outbound))))
