@@ -19,7 +19,7 @@ pub fn decide(asked: &Asked, output: &mut impl Write) -> Result<(), Failure> {
     let mut gateway = Gateway::new(asked.address);
     let policy = input::read(&asked.policy)?;
     let accepted = while_working(|| gateway.set_policy(&policy));
-    accepted.map_err(|refusal| Failure::refused(&asked.policy, refusal))?;
+    accepted.map_err(|refusal| Failure::refused_policy(&asked.policy, &policy, refusal))?;
     if let Some(pairs) = &asked.pairs {
         pairs::add_all(pairs, &mut gateway)?;
     }

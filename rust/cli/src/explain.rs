@@ -13,7 +13,7 @@ pub fn explain(
     output: &mut impl Write,
 ) -> Result<(), Failure> {
     let file = input::read(name)?;
-    let refused = |refusal| Failure::refused(name, refusal);
+    let refused = |refusal| Failure::refused_policy(name, &file, refusal);
     let policy = Policy::parse(&file).map_err(refused)?;
     writeln!(output, "action: {}", policy.search(direction, selectors))?;
     writeln!(output, "file: {}", deciding(&file, direction, selectors).map_err(refused)?)?;
@@ -28,6 +28,6 @@ fn deciding(file: &[u8], direction: Direction, selectors: &Selectors) -> Result<
     let Some(place) = policy.first_match(direction, selectors) else {
         return Ok(format!("none of {} rows matches", policy.rows()));
     };
-    let row = file.split(|&byte| byte == b'\n').nth(place + 1).unwrap_or_default();
+    let row = input::row(file, place + 1);
     Ok(format!("row {} of {}: {}", place + 1, policy.rows(), String::from_utf8_lossy(row)))
 }

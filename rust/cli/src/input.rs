@@ -22,6 +22,11 @@ pub fn read(name: &str) -> Result<Vec<u8>, Failure> {
     Ok(bytes)
 }
 
+/// The bytes of a row of a policy file, the first being 1; none where there are fewer.
+pub fn row(file: &[u8], number: usize) -> &[u8] {
+    file.split(|&byte| byte == b'\n').nth(number).unwrap_or_default()
+}
+
 pub fn unreadable(name: &str, error: &io::Error) -> Failure {
     Failure::Usage(format!("{name}: {error}"))
 }

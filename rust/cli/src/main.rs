@@ -31,7 +31,22 @@ impl Failure {
     pub fn refused(name: &str, refusal: Refusal) -> Failure {
         Failure::Refused(format!("{name}: {}: {refusal}", refusal.number()))
     }
+
+    /// A refusal of a policy file. A bad row is shown, its bytes escaped: a CR, or a space that
+    /// should be a tab, is seen.
+    pub fn refused_policy(name: &str, file: &[u8], refusal: Refusal) -> Failure {
+        let Refusal::BadRow(number) = refusal else {
+            return Failure::refused(name, refusal);
+        };
+        let row = input::row(file, number as usize);
+        let shown = &row[..row.len().min(LONGEST_ROW)];
+        let more = if shown.len() < row.len() { "..." } else { "" };
+        Failure::Refused(format!("{name}: 20: {refusal}: \"{}{more}\"", shown.escape_ascii()))
+    }
 }
+
+/// The bytes of a row of seven fields, each as long as can be.
+const LONGEST_ROW: usize = 120;
 
 impl From<io::Error> for Failure {
     fn from(error: io::Error) -> Failure {
@@ -80,7 +95,7 @@ fn perform(task: Task, output: &mut impl Write) -> Result<(), Failure> {
 /// Whether a gateway accepts the policy, and how many rows it and its normal forms have.
 fn check(name: &str, output: &mut impl Write) -> Result<(), Failure> {
     let file = input::read(name)?;
-    let refused = |refusal| Failure::refused(name, refusal);
+    let refused = |refusal| Failure::refused_policy(name, &file, refusal);
     let mut gateway = Gateway::new(Ipv4Addr::UNSPECIFIED);
     while_working(|| gateway.set_policy(&file)).map_err(refused)?;
     let rows = |file: &[u8]| Policy::parse(file).map(|policy| policy.rows()).map_err(refused);
@@ -93,7 +108,7 @@ fn check(name: &str, output: &mut impl Write) -> Result<(), Failure> {
 fn normal_form(name: &str, direction: Direction) -> Result<Vec<u8>, Failure> {
     let file = input::read(name)?;
     let form = while_working(|| normalise(&file, direction));
-    form.map_err(|refusal| Failure::refused(name, refusal))
+    form.map_err(|refusal| Failure::refused_policy(name, &file, refusal))
 }
 
 /// Whether two policies treat every packet of one direction alike.
@@ -106,8 +121,8 @@ fn same(
     let (own, other) = (input::read(first)?, input::read(second)?);
     let compared = while_working(|| same_policy(&own, &other, direction));
     let same = compared.map_err(|refused| match refused {
-        Refused::First(refusal) => Failure::refused(first, refusal),
-        Refused::Second(refusal) => Failure::refused(second, refusal),
+        Refused::First(refusal) => Failure::refused_policy(first, &own, refusal),
+        Refused::Second(refusal) => Failure::refused_policy(second, &other, refusal),
     })?;
     writeln!(output, "{}", if same { "same" } else { "different" })?;
     Ok(())

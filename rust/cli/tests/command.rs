@@ -34,7 +34,11 @@ fn a_policy_is_checked() {
     let refused = [
         ("", "23: first nine bytes aren't the header line"),
         ("policy\t1\nx", "24: last byte isn't LF"),
-        ("policy\t1\n\n", "20: bad row 1"),
+        ("policy\t1\n\n", "20: bad row 1: \"\""),
+        (
+            "policy\t1\nboth\tdiscard\tany\tany\tany\tany\tany\nout discard\r\n",
+            r#"20: bad row 2: "out discard\r""#,
+        ),
     ];
     for (policy, words) in refused {
         let output = specksonne(&["check", "-"], policy.as_bytes());

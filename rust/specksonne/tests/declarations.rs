@@ -49,6 +49,18 @@ fn rust_like(
     found
 }
 
+/// A count as the exports write it: a number, or a constant of the crates below: a sum of products of
+/// such.
+fn count(written: &str) -> usize {
+    if let Ok(number) = written.parse() {
+        return number;
+    }
+    let sources = ["crates/policy/src/lib.rt", "crates/spd_words/src/lib.rt"].map(text).concat();
+    let definition = format!("pub const {written}: usize = ");
+    let (value, _) = between(&sources, &definition, ";").unwrap_or_else(|| panic!("{written}"));
+    value.split(" + ").map(|term| term.split(" * ").map(count).product::<usize>()).sum()
+}
+
 /// A slice is a pointer and a count; an array is a pointer to that many; a row record is 22 words.
 fn exported_type(kind: &str) -> Vec<String> {
     let (access, of) = match kind.strip_prefix("&mut ") {
@@ -60,7 +72,7 @@ fn exported_type(kind: &str) -> Vec<String> {
     }
     match of.strip_prefix('[').and_then(|of| of.strip_suffix(']')) {
         Some(inner) => match inner.split_once("; ") {
-            Some((element, count)) => vec![format!("{access} {element} {count}")],
+            Some((element, many)) => vec![format!("{access} {element} {}", count(many))],
             None => vec![format!("{access} {inner}"), "usize".to_string()],
         },
         None if kind.starts_with('&') => vec![format!("{access} {of}")],
