@@ -1,21 +1,23 @@
 -- The normal form of a policy of IPv4, its words, and what laying it out leaves. Assumes nothing: these are definitions.
-use Prim.Native.Nat.{ℕ, _*_}
+use Prim.Native.Nat.{ℕ, _-_, _*_}
 use mathlib.Core.Path.{_≡_}
 use mathlib.Core.Bool.{cond}
 use mathlib.Core.List.{List, [], _∷_, _++_}
 use lib.Dec.{leb}
-use lib.ListN.{length, take}
+use lib.ListN.{length, take, replicate}
 use Rattle.selectors.specs.Range.{ipv4Sizes}
 use Rattle.selectors.specs.declared.Direction.{Direction}
 use Rattle.selectors.specs.declared.Direction.the-variants.{Out, In}
 use Rattle.normal_form.specs.Search.{Row}
 use Rattle.policy.specs.declared.Action.{Action}
 use Rattle.policy.specs.Policy.{PolicyRow, policyNormalForm}
-use Rattle.policy.specs.Words.{actionWord, rowWords}
+use Rattle.policy.specs.Words.{actionWord, rowWords, policyWords}
 use Rattle.policy_text.specs.RowWords.{rangesWords}
 use Rattle.layout.specs.Laid.{roomFor}
 use Rattle.layout.specs.declared.Laid.{Laid}
 use Rattle.layout.specs.declared.Laid.the-variants.{Rows, Over, NoRoom}
+use Rattle.decorrelate.specs.declared.Form.{Form}
+use Rattle.decorrelate.specs.declared.Form.the-variants.{Rows as FormRows, Over as FormOver}
 
 -- The normal form of a policy of IPv4 for one direction.
 abbrev pub form : Direction → List PolicyRow → List (Row Action)
@@ -35,6 +37,18 @@ pub record FormOutcome (limit : ℕ) (d : Direction) (rs : List PolicyRow) (room
       ≡ cond (leb (roomFor limit) (length room)) (cond (leb (length (form d rs)) limit) (Rows (length (form d rs))) Over) NoRoom
   pub words : (n : ℕ) → r ≡ Rows n → take (n * rowWords) room′ ≡ formWords (form d rs)
   pub untouched : r ≡ NoRoom → room′ ≡ room
+
+-- The words, then zeros to the end of the room for the limit's rows.
+unfoldable pub padded : List ℕ → List ℕ
+padded ws = ws ++ replicate (policyWords - length ws) 0
+
+-- The count of a normal form's rows, or that there are more than the limit; and what then stands in a room for the limit's rows: the
+-- normal form's words with zeros after them, or what stood there before.
+abbrev pub formAnswer : ℕ → Direction → List PolicyRow → Form
+formAnswer limit d rs = cond (leb (length (form d rs)) limit) (FormRows (length (form d rs))) FormOver
+
+abbrev pub formAfter : ℕ → Direction → List PolicyRow → List ℕ → List ℕ
+formAfter limit d rs ws = cond (leb (length (form d rs)) limit) (padded (formWords (form d rs))) ws
 
 -- Document 01's number of a way, which answer 22 carries: 1 for out and 2 for in.
 abbrev pub directionNumber : Direction → ℕ

@@ -1,5 +1,6 @@
 pub mod Form
 pub mod FormLaws
+pub mod RoomLaws
 pub mod Agree
 pub mod AgreeLaws
 pub mod PruneLaws

@@ -2,12 +2,14 @@
 ghost use mathlib.Core.Path.{_≡_};
 ghost use mathlib.Core.Bool.{true};
 ghost use mathlib.Core.Logic.{_↔_};
+ghost use Prim.Native.Nat.{_≤_};
+ghost use lib.ListN.{length, getD, take};
 ghost use Rattle.selectors.specs.Range.{ipv4Sizes};
-ghost use Rattle.policy.specs.Words.{policyRows, rowLimit};
+ghost use Rattle.policy.specs.Words.{policyRows, rowLimit, policyWords};
 ghost use Rattle.layout.specs.Parting.{differenceForm};
 ghost use Rattle.layout.specs.Laid.{sizesOf, Outcome};
 ghost use Rattle.decorrelate.specs.Agree.{Agree};
-ghost use Rattle.decorrelate.specs.Form.{FormOutcome};
+ghost use Rattle.decorrelate.specs.Form.{form, formWords, padded, formAnswer, formAfter, FormOutcome};
 use layout::Laid;
 use layout::Point;
 use layout::ROOM_WORDS;
@@ -19,6 +21,12 @@ use selectors::Direction;
 
 // The words of the room that a normal form asks for.
 pub const FORM_ROOM: usize = LIMIT * ROOM_WORDS;
+
+// The count of a normal form's rows, or that it has more than the limit.
+pub enum Form {
+    Rows(usize),
+    Over,
+}
 
 // The highest value of each field of IPv4, in two words.
 pub const IPV4: Point = Point {
@@ -86,8 +94,74 @@ pub fn normal_form(rows: &[u64], direction: Direction, room: &mut [u64]) -> Laid
     difference(rows, &rows[..0], direction, IPV4, LIMIT, room)
 }
 
-// Whether two policies of IPv4 give every combination the same action in a direction: their difference has no rows.
-pub fn same(first: &[u64], second: &[u64], direction: Direction) -> bool
+// The word at a place of the first `used` words of a list with zeros after them.
+fn padded_word(from: &[u64], used: usize, i: usize) -> u64
+    requires { ⌜ used ≤ length (now from) ⌝ }
+    ensures { λ r. ⌜ r ≡ getD (padded (take used (now (from .entry)))) i 0 ⌝ }
+{
+    if i < used { from[i] } else { 0 }
+}
+
+// Writes the first `used` words of a list, and zeros after them.
+fn fill(words: &mut [u64], from: &[u64], used: usize)
+    requires { ⌜ (length (now words) ≡ policyWords) × (used ≤ policyWords) × (used ≤ length (now from)) ⌝ }
+    ensures { λ _. ⌜ now (words .exit) ≡ padded (take used (now (from .entry))) ⌝ }
+{
+    let mut i: usize = 0;
+    while i < POLICY_WORDS {
+        words[i] = padded_word(from, used, i);
+        i += 1;
+    }
+}
+
+// The same in a room for the limit's rows, with zeros after the normal form's words; more rows leave it as it was.
+pub fn form_of(rows: &[u64], direction: Direction, form: &mut [u64; POLICY_WORDS]) -> Form
+    ensures { λ r. ⌜ r ≡ formAnswer rowLimit direction (policyRows (now (rows .entry))) ⌝ }
+    ensures { λ _. ⌜ now (form .exit) ≡ formAfter rowLimit direction (policyRows (now (rows .entry))) (now (form .entry)) ⌝ }
+{
+    let mut room = [0u64; FORM_ROOM];
+    let laid = normal_form(rows, direction, &mut room);
+    match laid {
+        Laid::Rows(n) => {
+            fill(form, &room, n * ROW_WORDS);
+            Form::Rows(n)
+        }
+        Laid::Over => Form::Over,
+        Laid::NoRoom => Form::Over,
+    }
+}
+
+fn same_words(a: &[u64], b: &[u64]) -> bool
+    ensures { λ r. ⌜ (r ≡ true) ↔ (now (a .entry) ≡ now (b .entry)) ⌝ }
+{
+    if a.len() != b.len() {
+        return false;
+    }
+    let mut i: usize = 0;
+    while i < a.len() {
+        if a[i] != b[i] {
+            return false;
+        }
+        i += 1;
+    }
+    true
+}
+
+// Whether the normal form of a policy is within the limit and has these words.
+fn has_form(rows: &[u64], direction: Direction, words: &[u64]) -> bool
+    ensures { λ r. ⌜ (r ≡ true) ↔ ((length (form direction (policyRows (now (rows .entry)))) ≤ rowLimit) × (formWords (form direction (policyRows (now (rows .entry)))) ≡ now (words .entry))) ⌝ }
+{
+    let mut room = [0u64; FORM_ROOM];
+    let laid = normal_form(rows, direction, &mut room);
+    match laid {
+        Laid::Rows(n) => same_words(&room[..n * ROW_WORDS], words),
+        Laid::Over => false,
+        Laid::NoRoom => false,
+    }
+}
+
+// Whether the difference of two policies of IPv4 has no rows.
+fn no_difference(first: &[u64], second: &[u64], direction: Direction) -> bool
     ensures { λ r. ⌜ (r ≡ true) ↔ Agree ipv4Sizes direction (policyRows (now (first .entry))) (policyRows (now (second .entry))) ⌝ }
 {
     let mut room = [0u64; ROOM_WORDS];
@@ -97,4 +171,17 @@ pub fn same(first: &[u64], second: &[u64], direction: Direction) -> bool
         Laid::Over => false,
         Laid::NoRoom => false,
     }
+}
+
+// Whether two policies of IPv4 give every combination the same action in a direction: whether their normal forms are the same. Where the first one's
+// has more rows than the limit, their difference is asked for, which takes longer.
+pub fn same(first: &[u64], second: &[u64], direction: Direction) -> bool
+    ensures { λ r. ⌜ (r ≡ true) ↔ Agree ipv4Sizes direction (policyRows (now (first .entry))) (policyRows (now (second .entry))) ⌝ }
+{
+    let mut words = [0u64; POLICY_WORDS];
+    let laid = form_of(first, direction, &mut words);
+    let Form::Rows(n) = laid else {
+        return no_difference(first, second, direction);
+    };
+    has_form(second, direction, &words[..n * ROW_WORDS])
 }

@@ -1,17 +1,16 @@
 -- The words of a gateway that holds a policy, and policy acceptance (document 01). Assumes nothing: these are definitions.
-use Prim.Native.Nat.{ℕ, _-_}
+use Prim.Native.Nat.{ℕ}
 use mathlib.Core.Bool.{cond}
 use mathlib.Core.List.{List, _∷_, _++_}
 use lib.Dec.{leb}
-use lib.ListN.{length, replicate}
+use lib.ListN.{length}
 use Rattle.selectors.specs.declared.Direction.{Direction}
 use Rattle.selectors.specs.declared.Direction.the-variants.{Out, In}
-use Rattle.policy.specs.Words.{policyWords}
 use Rattle.policy.specs.Policy.{PolicyRow}
 use Rattle.policy_text.specs.declared.Parsed.{Parsed}
 use Rattle.policy_text.specs.declared.Parsed.the-variants.{Rows, NotHeader as NoHeader, NotEnded as NoEnd, TooMany as OverRows, BadRow as Bad, NoRoom}
 use Rattle.policy_text.specs.Format.{Policy, refused, rows}
-use Rattle.decorrelate.specs.Form.{form, formWords, directionNumber}
+use Rattle.decorrelate.specs.Form.{form, formWords, padded, directionNumber}
 use Rattle.spd_cache.specs.Cache.{emptyCache}
 use Rattle.spd_words.specs.Words.{addressOf}
 use Rattle.spd.specs.declared.Acceptance.{Acceptance}
@@ -19,19 +18,15 @@ use Rattle.spd.specs.declared.Acceptance.the-variants.{Accepted, NotHead
 use Rattle.spd.specs.declared.Caches.{Caches}
 use Rattle.spd.specs.declared.Settled.{Settled}
 
--- The words, then zeros to the end of their room.
-unfoldable pub padded : List ℕ → List ℕ
-padded ws = ws ++ replicate (policyWords - length ws) 0
-
--- The words of a gateway with this address: the counts and the words of the rows for out and for in.
+-- The words of a gateway with this address: the counts of the rows for out and for in, and a room for the limit's rows for each.
 abbrev pub heldWords : ℕ → ℕ → List ℕ → ℕ → List ℕ → List ℕ
-heldWords address outCount outRows inCount inRows = address ∷ outCount ∷ inCount ∷ (padded outRows ++ padded inRows)
+heldWords address outCount outRoom inCount inRoom = address ∷ outCount ∷ inCount ∷ (outRoom ++ inRoom)
 
 -- The words of a gateway with this address that holds this policy: 'A fresh gate holds the gateway address it was made with, never
 -- changed, the policy without rows'.
 abbrev pub spdWords : ℕ → List PolicyRow → List ℕ
 spdWords address rs =
-    heldWords address (length (form Out rs)) (formWords (form Out rs)) (length (form In rs)) (formWords (form In rs))
+    heldWords address (length (form Out rs)) (padded (formWords (form Out rs))) (length (form In rs)) (padded (formWords (form In rs)))
 
 -- A refused file is refused with its own answer. (`Rows` and `NoRoom` refuse no file.)
 abbrev pub refusal : Parsed → Acceptance

@@ -5,7 +5,7 @@ use native.Mathlib.Decide.{decLe}
 use mathlib.Core.Path.{_≡_, refl, ap, _∙_}
 use mathlib.Core.Logic.{_↔_}
 use mathlib.Core.List.{List, [], _∷_}
-use lib.ListN.{length, take, length-append}
+use lib.ListN.{length, take, replicate, length-append}
 use lib.Seq.{take-append-le, drop-at}
 use borrow.Author.Tests.{le-leb, lt-leb}
 use Rattle.selectors.specs.Range.{ipv4Sizes}
@@ -15,18 +15,18 @@ use Rattle.normal_form.specs.Search.{Combination}
 use Rattle.policy.specs.Policy.{PolicyRow, orderedSearch}
 use Rattle.policy.specs.Words.{rowWords, policyRows, policyWords, rowLimit}
 use Rattle.policy_text.specs.Format.{Policy, refused, rows}
-use Rattle.decorrelate.specs.Form.{form, formWords}
+use Rattle.decorrelate.specs.Form.{form, formWords, padded}
 use Rattle.decorrelate.specs.AgreeLaws.{empty-form}
 use Rattle.decorrelate.specs.FormLaws.{form-words-length, form-search}
+use Rattle.decorrelate.specs.RoomLaws.{padded-size, padded-start}
 use Rattle.spd.specs.declared.Acceptance.{Acceptance}
 use Rattle.spd.specs.declared.Acceptance.the-variants.{Accepted, NotHeader, NotEnded, TooMany, BadRow, TooLarge}
-use Rattle.spd.specs.Spd.{padded, heldWords, spdWords, accepting, ifAccepted, spdAfter}
+use Rattle.spd.specs.Spd.{heldWords, spdWords, accepting, ifAccepted, spdAfter}
 use Rattle.spd_words.specs.Words.{spdSize, addressOf, rowsOf, rowsAt}
-use Rattle.spd.specs.StoreLaws.{padded-size, padded-start}
 
 -- The words of the policy without rows.
-pub empty-words : (a : ℕ) → heldWords a 0 [] 0 [] ≡ spdWords a []
-unfolding formWords
+pub empty-words : (a : ℕ) → heldWords a 0 (replicate policyWords 0) 0 (replicate policyWords 0) ≡ spdWords a []
+unfolding formWords padded
 empty-words a = rw (empty-form Out, empty-form In)
 
 -- The normal form for each direction is within the limit.

@@ -1,15 +1,13 @@
 // A fresh gateway's policy, and policy acceptance (document 01).
 ghost use mathlib.Core.Path.{_≡_};
 ghost use mathlib.Core.List.{[]};
-ghost use Prim.Native.Nat.{_+_, _*_, _≤_};
-ghost use lib.ListN.{length, getD, take};
+ghost use Prim.Native.Nat.{_+_, _≤_};
+ghost use lib.ListN.{length};
 ghost use lib.Seq.{paste};
 ghost use Rattle.policy.specs.Words.{policyRows, policyWords, rowLimit};
 ghost use Rattle.policy_text.specs.Format.{rows, parsePolicy};
-ghost use Rattle.spd.specs.Spd.{padded, heldWords, spdWords, spdAfter, emptyCaches, answer, settled};
-ghost use Rattle.spd.specs.Steps.{FormRows};
-use decorrelate::FORM_ROOM;
-use layout::Laid;
+ghost use Rattle.spd.specs.Spd.{heldWords, spdWords, spdAfter, emptyCaches, answer, settled};
+use decorrelate::Form;
 use policy::LIMIT;
 use policy::POLICY_WORDS;
 use policy::ROW_WORDS;
@@ -48,12 +46,6 @@ pub struct Settled {
     pub caches: Caches,
 }
 
-// The count of a normal form's rows, or that it has too many.
-enum Form {
-    Rows(usize),
-    Over,
-}
-
 fn empty_caches() -> Caches
     ensures { λ r. ⌜ r ≡ emptyCaches ⌝ }
 {
@@ -63,27 +55,19 @@ fn empty_caches() -> Caches
     }
 }
 
-// The word at a place of the first `used` words of a list with zeros after them.
-fn padded_word(from: &[u64], used: usize, i: usize) -> u64
-    requires { ⌜ used ≤ length (now from) ⌝ }
-    ensures { λ r. ⌜ r ≡ getD (padded (take used (now (from .entry)))) i 0 ⌝ }
-{
-    if i < used { from[i] } else { 0 }
-}
-
-// Writes the first `used` words of a list and zeros after them: the room for one direction, from the place `at` on.
-fn store(words: &mut [u64], at: usize, from: &[u64], used: usize)
-    requires { ⌜ (at + policyWords ≤ length (now words)) × (used ≤ policyWords) × (used ≤ length (now from)) ⌝ }
-    ensures { λ _. ⌜ now (words .exit) ≡ paste (now (words .entry)) at (padded (take used (now (from .entry)))) policyWords ⌝ }
+// Writes the room of one direction, from the place `at` on.
+fn store(words: &mut [u64], at: usize, room: &[u64])
+    requires { ⌜ (at + policyWords ≤ length (now words)) × (length (now room) ≡ policyWords) ⌝ }
+    ensures { λ _. ⌜ now (words .exit) ≡ paste (now (words .entry)) at (now (room .entry)) policyWords ⌝ }
 {
     let mut i: usize = 0;
     while i < POLICY_WORDS {
-        words[at + i] = padded_word(from, used, i);
+        words[at + i] = room[i];
         i += 1;
     }
 }
 
-// Writes the address, and the counts and the rows of both directions.
+// Writes the address, and the counts and the rooms of both directions.
 fn write(
     words: &mut [u64; SPD_WORDS],
     address: u64,
@@ -92,30 +76,13 @@ fn write(
     in_count: usize,
     inbound: &[u64; POLICY_WORDS],
 )
-    requires { ⌜ («out_count» ≤ rowLimit) × («in_count» ≤ rowLimit) ⌝ }
-    ensures { λ _. ⌜ now (words .exit) ≡ heldWords address «out_count» (take («out_count» * 22) (now (outbound .entry))) «in_count» (take («in_count» * 22) (now (inbound .entry))) ⌝ }
+    ensures { λ _. ⌜ now (words .exit) ≡ heldWords address «out_count» (now (outbound .entry)) «in_count» (now (inbound .entry)) ⌝ }
 {
     words[0] = address;
     words[1] = out_count as u64;
     words[2] = in_count as u64;
-    store(words, OUT_ROWS, outbound, out_count * ROW_WORDS);
-    store(words, IN_ROWS, inbound, in_count * ROW_WORDS);
-}
-
-// Lays out a policy's normal form for a direction: its rows stand at the start of `form`. (The room is never too short.)
-fn lay_out(policy: &[u64], direction: Direction, form: &mut [u64; POLICY_WORDS]) -> Form
-    ensures { λ r. ⌜ FormRows direction (policyRows (now (policy .entry))) (now (form .exit)) r ⌝ }
-{
-    let mut room = [0u64; FORM_ROOM];
-    let laid = decorrelate::normal_form(policy, direction, &mut room);
-    match laid {
-        Laid::Rows(n) => {
-            store(form, 0, &room, n * ROW_WORDS);
-            Form::Rows(n)
-        }
-        Laid::Over => Form::Over,
-        Laid::NoRoom => Form::Over,
-    }
+    store(words, OUT_ROWS, outbound);
+    store(words, IN_ROWS, inbound);
 }
 
 // A fresh gateway holds its address and the policy without rows.
@@ -140,12 +107,12 @@ fn load(words: &mut [u64; SPD_WORDS], caches: Caches, policy: &[u64]) -> Settled
     ensures { λ _. ⌜ now (words .exit) ≡ spdAfter rowLimit (now (words .entry)) (rows (policyRows (now (policy .entry)))) ⌝ }
 {
     let mut outbound = [0u64; POLICY_WORDS];
-    let out_form = lay_out(policy, Direction::Out, &mut outbound);
+    let out_form = decorrelate::form_of(policy, Direction::Out, &mut outbound);
     let Form::Rows(out_count) = out_form else {
         return refuse(Acceptance::TooLarge(Direction::Out), caches);
     };
     let mut inbound = [0u64; POLICY_WORDS];
-    let in_form = lay_out(policy, Direction::In, &mut inbound);
+    let in_form = decorrelate::form_of(policy, Direction::In, &mut inbound);
     let Form::Rows(in_count) = in_form else {
         return refuse(Acceptance::TooLarge(Direction::In), caches);
     };

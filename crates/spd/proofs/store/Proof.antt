@@ -4,34 +4,33 @@ use native.Mathlib.Omega.{arith}
 use native.Mathlib.Numerals.{add-one}
 use mathlib.Core.Path.{_≡_, refl, _∙_}
 use denote.Ref.{now}
-use lib.ListN.{length, take, length-set, length-take}
+use lib.ListN.{length, length-set}
 use lib.Seq.{paste, paste-zero, paste-suc}
 use Rattle.policy.specs.Words.{policyWords}
-use Rattle.spd.specs.Spd.{padded}
-use Rattle.spd.specs.StoreLaws.{padded-size}
 use borrow.Author.Needs.{needs}
 use Rattle.spd.proofs.store.Statement.{statement}
 use Rattle.spd.proofs.store.Tie as tie
 
 abbrev Inv-loop : tie.InvT-loop
-Inv-loop words₀ at from used i₀ words i = (i ≤ policyWords) × (words ≡ paste words₀ at (padded (take used from)) i) × (length words ≡ length words₀)
+Inv-loop words₀ at room i₀ words i = (i ≤ policyWords) × (words ≡ paste words₀ at room i) × (length words ≡ length words₀)
 
 abbrev μ-loop : tie.MeasureT-loop
-μ-loop words₀ at from used i₀ words i = policyWords - i
+μ-loop words₀ at room i₀ words i = policyWords - i
 
 loop-holds : tie.Need-loop-holds Inv-loop μ-loop
-loop-holds c =
-    let a = c .before .before .args in
-    (search needs, paste-zero (now (a .words)) (a .at) (padded (take (a .used) (now (a .from)))), refl)
+loop-holds c = let a = c .args in (search needs, paste-zero (now (a .words)) (a .at) (now (a .room)), refl)
 
-padded-word-requires : tie.Need-padded-word-requires Inv-loop μ-loop
-padded-word-requires c κs = search needs
+mul-words : tie.Need-mul-words Inv-loop μ-loop
+mul-words c = search needs
+
+shared-slice-read-words : tie.Need-shared-slice-read-words Inv-loop μ-loop
+shared-slice-read-words c = search needs
 
 add-words : tie.Need-add-words Inv-loop μ-loop
 add-words c = search needs
 
-mul-words : tie.Need-mul-words Inv-loop μ-loop
-mul-words c = search needs
+mul-words-2 : tie.Need-mul-words-2 Inv-loop μ-loop
+mul-words-2 c = search needs
 
 slice-write-words : tie.Need-slice-write-words Inv-loop μ-loop
 slice-write-words c = search needs
@@ -44,13 +43,11 @@ loop-less c = search needs
 
 loop-again : tie.Need-loop-again Inv-loop μ-loop
 loop-again c =
-    let s = c .before .before .before .before .before in
-    let ws = take (s .args .used) (now (s .args .from)) in
-    let size : length (padded ws) ≡ policyWords = padded-size ws (omega (arith, length-take (s .args .used) (now (s .args .from)))) in (
+    let a = c .before .before .before .args in
+    let l = c .before .before .loop in (
       search needs,
-      rw (c .before .before .loop .inv .1, c .padded-word .ensures, add-one)
-          (paste-suc (now (s .args .words)) (s .args .at) (padded ws) (c .before .before .loop .i) 0 (omega arith) (omega arith)),
-      simp length-set (c .before .before .loop .inv .2),
+      rw (l .inv .1, add-one) (paste-suc (now (a .words)) (a .at) (now (a .room)) (l .i) 0 (omega arith) (omega arith)),
+      simp length-set (l .inv .2),
     )
 
 same-length : tie.Need-same-length Inv-loop μ-loop
@@ -66,9 +63,10 @@ store-spec =
     Inv-loop
     μ-loop
     loop-holds
-    padded-word-requires
-    add-words
     mul-words
+    shared-slice-read-words
+    add-words
+    mul-words-2
     slice-write-words
     add-i
     loop-less

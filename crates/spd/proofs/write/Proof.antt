@@ -1,15 +1,13 @@
 -- `spd::write` meets its contract. Assumes nothing.
-use Prim.Native.Nat.{ℕ, _*_}
-use native.Mathlib.Omega.{arith}
+use Prim.Native.Nat.{ℕ}
 use mathlib.Core.Path.{ap, _∙_}
 use mathlib.Core.List.{List}
 use denote.Ref.{now}
-use lib.ListN.{take, length-take, length-set}
+use lib.ListN.{length-set}
 use lib.Seq.{paste}
 use Rattle.selectors.specs.declared.Direction.the-variants.{In}
-use Rattle.spd_words.specs.Words.{rowsAt}
 use Rattle.policy.specs.Words.{policyWords}
-use Rattle.spd.specs.Spd.{padded}
+use Rattle.spd_words.specs.Words.{rowsAt}
 use Rattle.spd.specs.StoreLaws.{held-written}
 use borrow.Author.Needs.{needs}
 use Rattle.spd.proofs.write.Statement.{statement}
@@ -24,14 +22,8 @@ element-write-words-2 c = search needs
 element-write-words-3 : tie.Need-element-write-words-3
 element-write-words-3 c = search needs
 
-mul-store : tie.Need-mul-store
-mul-store c = search needs
-
 store-requires : tie.Need-store-requires
 store-requires c κs = search needs
-
-mul-store-2 : tie.Need-mul-store-2
-mul-store-2 c = search needs
 
 store-requires-2 : tie.Need-store-requires-2
 store-requires-2 c κs = search needs
@@ -39,14 +31,12 @@ store-requires-2 c κs = search needs
 returns : tie.Need-returns
 returns c =
     let s = c .before .before .before .before .before .before in
-    let a = take (s .args .out-count * 22) (now (s .args .outbound)) in
-    let b = take (s .args .in-count * 22) (now (s .args .inbound)) in
     c .store2 .ensures
-    ∙ ap (λ (t : List ℕ). paste t (rowsAt In) (padded b) policyWords) (c .before .before .before .store .ensures)
-    ∙ held-written (now (s .args .words)) (s .args .address) (s .args .out-count) (s .args .in-count) a b
+    ∙ ap (λ (t : List ℕ). paste t (rowsAt In) (now (s .args .inbound)) policyWords) (c .before .before .before .store .ensures)
+    ∙ held-written (now (s .args .words)) (s .args .address) (s .args .out-count) (s .args .in-count) (now (s .args .outbound)) (now (s .args .inbound))
     (simp length-set at (c .before .before .before .before .before .store-arg .given .0 .1))
-    (omega (arith, length-take (s .args .out-count * 22) (now (s .args .outbound))))
-    (omega (arith, length-take (s .args .in-count * 22) (now (s .args .inbound))))
+    (search needs)
+    (search needs)
 
 pub write-spec : {M : Type 1} → statement M
 write-spec =
@@ -55,8 +45,6 @@ write-spec =
     element-write-words
     element-write-words-2
     element-write-words-3
-    mul-store
     store-requires
-    mul-store-2
     store-requires-2
     returns)

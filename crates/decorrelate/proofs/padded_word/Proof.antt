@@ -1,10 +1,10 @@
--- `spd::padded_word` meets its contract. Assumes nothing.
+-- `decorrelate::padded_word` meets its contract. Assumes nothing.
 use mathlib.Core.Path.{sym}
 use denote.Ref.{now}
-use Rattle.spd.specs.StoreLaws.{padded-front, padded-rest}
+use Rattle.decorrelate.specs.RoomLaws.{padded-front, padded-rest}
 use borrow.Author.Needs.{needs}
-use Rattle.spd.proofs.padded_word.Statement.{statement}
-use Rattle.spd.proofs.padded_word.Tie as tie
+use Rattle.decorrelate.proofs.padded_word.Statement.{statement}
+use Rattle.decorrelate.proofs.padded_word.Tie as tie
 
 mul-result : tie.Need-mul-result
 mul-result c = search needs
