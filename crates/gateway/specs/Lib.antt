@@ -1,1 +1,2 @@
 pub mod Cached
+pub mod Trigger

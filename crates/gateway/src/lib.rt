@@ -3,10 +3,12 @@ ghost use mathlib.Core.Path.{_≡_};
 ghost use Rattle.packet.specs.Read.{readTrigger};
 ghost use Rattle.sad.specs.Pairs.{pairs};
 ghost use Rattle.spd_words.specs.Words.{rowsOf, addressOf};
-ghost use Rattle.verdicts.specs.Calls.{triggerRead, fromSaBy};
+ghost use Rattle.verdicts.specs.Calls.{fromSaBy};
 ghost use Rattle.gateway.specs.Cached.{outboundCached, inboundCached};
+ghost use Rattle.gateway.specs.Trigger.{triggerAt};
 use own_ipsec::Own;
 use packet::Reading;
+use sad::Place;
 use selectors::Direction;
 use spd_cache::Cache;
 use spd_words::SPD_WORDS;
@@ -75,38 +77,39 @@ pub fn inbound(
     }
 }
 
-// The triggering header of an ICMP error message that came from an association. It is read as going out.
-fn from_trigger(table: &[u64; 1536], protocol: u64, spi: u32, header: &[u8]) -> Verdict
-    ensures { λ r. ⌜ r ≡ triggerRead protocol spi (pairs (now (table .entry))) (readTrigger Direction.Out (now (header .entry))) ⌝ }
+// The triggering header of an ICMP error message that came from the association at a place. It is read as going out.
+fn from_trigger(table: &[u64; 1536], place: usize, header: &[u8]) -> Verdict
+    ensures { λ r. ⌜ r ≡ triggerAt (now (table .entry)) place (readTrigger Direction.Out (now (header .entry))) ⌝ }
 {
     let reading = packet::read_trigger(header, Direction::Out);
     let Reading::Readable(packet) = reading else {
         return Verdict::TriggerUnreadable;
     };
-    if sad::fits(table, protocol, spi, packet.selectors) {
+    if sad::fits_at(table, place, packet.selectors) {
         return Verdict::Deliver;
     }
     Verdict::TriggerDoesNotFit
 }
 
-// A packet coming in from an association: the pair of that protocol and inbound SPI took AH or ESP off.
+// A packet coming in from an association: the pair of that protocol and inbound SPI took AH or ESP off. Its place is looked for once.
 pub fn from_sa(table: &[u64; 1536], protocol: u64, spi: u32, bytes: &[u8]) -> Verdict
     ensures { λ r. ⌜ r ≡ fromSaBy protocol spi (pairs (now (table .entry))) (now (bytes .entry)) ⌝ }
 {
-    if !sad::is_live(table, protocol, spi) {
+    let found = sad::place_of(table, protocol, spi);
+    let Place::At(place) = found else {
         return Verdict::NoSuchPair;
-    }
+    };
     let reading = packet::read(bytes, Direction::In);
     let Reading::Readable(packet) = reading else {
         return Verdict::NotReadable;
     };
     let selectors = packet.selectors;
-    if sad::fits(table, protocol, spi, selectors) {
+    if sad::fits_at(table, place, selectors) {
         return Verdict::Deliver;
     }
     if !packet::is_icmp_error(selectors) {
         return Verdict::DoesNotFit;
     }
     let header = packet::trigger(bytes, packet);
-    from_trigger(table, protocol, spi, header)
+    from_trigger(table, place, header)
 }

@@ -114,13 +114,18 @@ unfoldable pub firstFrom : (ℕ → Bool) → ℕ → ℕ → Place
 firstFrom test i zero = Nowhere
 firstFrom test i (suc n) = cond (test i) (At i) (firstFrom test (suc i) n)
 
--- The place of a live pair of that name, and the lowest free place.
+-- The place of a live pair of that name.
 abbrev pub namedAt : List ℕ → ℕ → ℕ → ℕ → Bool
 namedAt ws protocol spi i = liveAt ws i && named protocol spi (pairAt ws i)
 
 abbrev pub placeOf : List ℕ → ℕ → ℕ → Place
 placeOf ws protocol spi = firstFrom (namedAt ws protocol spi) 0 placeCount
 
+-- Whether there is such a place and its ranges hold the values. That a pair lives there is not asked.
+unfoldable pub fitsAt : List ℕ → List ℕ → ℕ → Bool
+fitsAt ws vs i = ltb i placeCount && holds (pairAt ws i .ranges) vs
+
+-- The lowest free place.
 abbrev pub freeAt : List ℕ → ℕ → Bool
 freeAt ws i = not (liveAt ws i)
 

@@ -2,9 +2,9 @@
 use Prim.Native.Nat.{ℕ, zero, suc, _+_, _-_, _*_, _<_, _≤_}
 use native.Mathlib.Omega.{arith}
 use native.Mathlib.Numerals.{add-one}
-use mathlib.Core.Path.{_≡_, refl, ap}
+use mathlib.Core.Path.{_≡_, refl, ap, _∙_}
 use mathlib.Core.Bool.{Bool, true, false, cond, _&&_, or-false}
-use mathlib.Core.List.{List, _∷_}
+use mathlib.Core.List.{List, [], _∷_}
 use mathlib.Core.Option.{Option, none, some}
 use lib.Dec.{ltb, leb, eqb}
 use lib.Seq.{paste}
@@ -26,7 +26,7 @@ use Rattle.sad.specs.declared.Outcome.{Outcome}
 use Rattle.sad.specs.declared.Outcome.the-variants.{Done, ReservedSpi, AlreadyLive, TableFull, BadPair, NothingToRemove}
 use Rattle.sad.specs.declared.NewPair.{NewPair}
 use Rattle.sad.specs.declared.PairFound.the-variants.{Found, Nothing}
-use Rattle.sad.specs.Pairs.{Pair, placeCount, placeWords, valueAt, rangeAt, rangesAt, pairAt, liveAt, pairsFrom, pairs, pairFor, placeOf, freePlace, reservedSpi, wellFormed, pairWords, addOutcome, added, removeOutcome, removed, named, live, fitting, namedAt, freeAt, wanted, before, beats, bestOf, chosen, betterOf, firstFrom}
+use Rattle.sad.specs.Pairs.{Pair, placeCount, placeWords, valueAt, rangeAt, pairAt, liveAt, pairsFrom, pairs, pairFor, placeOf, freePlace, reservedSpi, wellFormed, pairWords, addOutcome, added, removeOutcome, removed, named, live, fitting, namedAt, freeAt, wanted, before, beats, bestOf, chosen, betterOf, firstFrom, fitsAt}
 
 -- A range made of the values at its words is the range at those words.
 pub values-hold : (ws : List ℕ) (at v : ℕ) (low high : Value) → low ≡ valueAt ws at → high ≡ valueAt ws (at + 2)
@@ -132,43 +132,49 @@ pub pairs-free : (ws : List ℕ) (i n : ℕ) → liveAt ws i ≡ false → pairs
 unfolding pairsFrom
 pairs-free ws i n e = rw e
 
--- A pair is live if it has a place, and it fits if its ranges at that place hold the values.
-abbrev pub isPlace : Place → Bool
-isPlace (At i) = true
-isPlace Nowhere = false
+-- What is asked of a place that may not be there; of none it does not hold.
+abbrev atPlace : (ℕ → Bool) → Place → Bool
+atPlace test (At i) = test i
+atPlace test Nowhere = false
 
-abbrev pub fitsAt : List ℕ → List ℕ → Place → Bool
-fitsAt ws vs (At i) = holds (rangesAt ws (i * placeWords + 4)) vs
-fitsAt ws vs Nowhere = false
+-- What the first live pair of a name decides is decided at its place.
+module _ (ws : List ℕ) (protocol spi : ℕ) (decided : List Pair → Bool) (of : Pair → Bool)
+    (empty : decided [] ≡ false)
+    (first : (q : Pair) (qs : List Pair) → decided (q ∷ qs) ≡ cond (named protocol spi q) (of q) (decided qs)) where
+  decided-at : (i n : ℕ) → decided (pairsFrom ws i n) ≡ atPlace (λ j. of (pairAt ws j)) (firstFrom (namedAt ws protocol spi) i n)
+  unfolding pairsFrom firstFrom
+  decided-at i zero = empty
+  decided-at i (suc n) = by (liveAt ws i) refl (named protocol spi (pairAt ws i)) refl (decided-at (suc i) n)
+    where
+      by : (l : Bool) → liveAt ws i ≡ l → (m : Bool) → named protocol spi (pairAt ws i) ≡ m
+          → decided (pairsFrom ws (suc i) n) ≡ atPlace (λ j. of (pairAt ws j)) (firstFrom (namedAt ws protocol spi) (suc i) n)
+          → decided (pairsFrom ws i (suc n)) ≡ atPlace (λ j. of (pairAt ws j)) (cond (liveAt ws i && named protocol spi (pairAt ws i)) (At i) (firstFrom (namedAt ws protocol spi) (suc i) n))
+      by true l true m ih = rw (pairs-live ws i n l, first (pairAt ws i) (pairsFrom ws (suc i) n), l, m)
+      by true l false m ih = rw (pairs-live ws i n l, first (pairAt ws i) (pairsFrom ws (suc i) n), l, m) ih
+      by false l b m ih = rw (pairs-free ws i n l, l) ih
 
-pair-ranges : (ws : List ℕ) (i : ℕ) (vs : List ℕ) → holds (pairAt ws i .ranges) vs ≡ holds (rangesAt ws (i * placeWords + 4)) vs
-unfolding pairAt
-pair-ranges ws i vs = refl
-
+-- A pair that has a place is live, and it fits what the place fits. One that has none is not live.
 module _ (ws : List ℕ) (protocol spi : ℕ) where
-  pub live-place : (i n : ℕ) → live protocol spi (pairsFrom ws i n) ≡ isPlace (firstFrom (namedAt ws protocol spi) i n)
-  unfolding pairsFrom live firstFrom
-  live-place i zero = refl
-  live-place i (suc n) = by (liveAt ws i) refl (named protocol spi (pairAt ws i)) refl (live-place (suc i) n)
-    where
-      by : (l : Bool) → liveAt ws i ≡ l → (m : Bool) → named protocol spi (pairAt ws i) ≡ m
-          → live protocol spi (pairsFrom ws (suc i) n) ≡ isPlace (firstFrom (namedAt ws protocol spi) (suc i) n)
-          → live protocol spi (pairsFrom ws i (suc n)) ≡ isPlace (cond (liveAt ws i && named protocol spi (pairAt ws i)) (At i) (firstFrom (namedAt ws protocol spi) (suc i) n))
-      by true l true m ih = rw (pairs-live ws i n l, l, m)
-      by true l false m ih = rw (pairs-live ws i n l, l, m) ih
-      by false l b m ih = rw (pairs-free ws i n l, l) ih
+  live-place : live protocol spi (pairs ws) ≡ atPlace (λ j. true) (placeOf ws protocol spi)
+  unfolding live
+  live-place = decided-at ws protocol spi (live protocol spi) (λ q. true) refl (λ q qs. refl) 0 placeCount
 
-  pub fitting-place : (vs : List ℕ) (i n : ℕ) → fitting protocol spi vs (pairsFrom ws i n) ≡ fitsAt ws vs (firstFrom (namedAt ws protocol spi) i n)
-  unfolding pairsFrom fitting firstFrom
-  fitting-place vs i zero = refl
-  fitting-place vs i (suc n) = by (liveAt ws i) refl (named protocol spi (pairAt ws i)) refl (fitting-place vs (suc i) n)
-    where
-      by : (l : Bool) → liveAt ws i ≡ l → (m : Bool) → named protocol spi (pairAt ws i) ≡ m
-          → fitting protocol spi vs (pairsFrom ws (suc i) n) ≡ fitsAt ws vs (firstFrom (namedAt ws protocol spi) (suc i) n)
-          → fitting protocol spi vs (pairsFrom ws i (suc n)) ≡ fitsAt ws vs (cond (liveAt ws i && named protocol spi (pairAt ws i)) (At i) (firstFrom (namedAt ws protocol spi) (suc i) n))
-      by true l true m ih = rw (pairs-live ws i n l, l, m) (pair-ranges ws i vs)
-      by true l false m ih = rw (pairs-live ws i n l, l, m) ih
-      by false l b m ih = rw (pairs-free ws i n l, l) ih
+  pub live-nowhere : placeOf ws protocol spi ≡ Nowhere → live protocol spi (pairs ws) ≡ false
+  live-nowhere e = live-place ∙ ap (atPlace (λ j. true)) e
+
+  module _ (i : ℕ) (e : placeOf ws protocol spi ≡ At i) where
+    pub live-at : live protocol spi (pairs ws) ≡ true
+    live-at = live-place ∙ ap (atPlace (λ j. true)) e
+
+    pub place-bound : i < placeCount
+    place-bound = omega (arith, first-bound (namedAt ws protocol spi) 0 placeCount i e)
+
+    pub fitting-at : (vs : List ℕ) → fitting protocol spi vs (pairs ws) ≡ fitsAt ws vs i
+    unfolding fitting fitsAt
+    fitting-at vs =
+        decided-at ws protocol spi (fitting protocol spi vs) (λ q. holds (q .ranges) vs) refl (λ q qs. refl) 0 placeCount
+        ∙ ap (atPlace (λ j. holds (pairAt ws j .ranges) vs)) e
+        ∙ rw (lt-ltb i placeCount place-bound)
 
 -- All places are live exactly where none is free.
 pairs-count : (ws : List ℕ) (i n : ℕ) → length (pairsFrom ws i n) ≤ n
@@ -212,12 +218,12 @@ module _ (ws : List ℕ) (number : ℕ) (vs : List ℕ) (best : ℕ) (e : chosen
 module _ (ws : List ℕ) (protocol spi : ℕ) where
   pub removed-none : placeOf ws protocol spi ≡ Nowhere → (NothingToRemove ≡ removeOutcome (pairs ws) protocol spi) × (ws ≡ removed ws protocol spi)
   unfolding removeOutcome removed
-  removed-none e = (rw (live-place ws protocol spi 0 placeCount, e), rw e)
+  removed-none e = (rw (live-nowhere ws protocol spi e), rw e)
 
   pub removed-at : (i : ℕ) → placeOf ws protocol spi ≡ At i
       → (Done ≡ removeOutcome (pairs ws) protocol spi) × (set ws (i * placeWords) 0 ≡ removed ws protocol spi)
   unfolding removeOutcome removed
-  removed-at i e = (rw (live-place ws protocol spi 0 placeCount, e), rw e)
+  removed-at i e = (rw (live-at ws protocol spi i e), rw e)
 
 -- 'An added pair: 25, 28, 26, 27': each refusal after those before it, and then the pair takes the lowest free place.
 abbrev pub Answers : List ℕ → NewPair → Outcome → List ℕ → Type 0

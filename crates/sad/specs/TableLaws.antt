@@ -18,7 +18,7 @@ use Rattle.sad.specs.declared.Place.the-variants.{At, Nowhere}
 use Rattle.sad.specs.declared.Outcome.{Outcome}
 use Rattle.sad.specs.declared.Outcome.the-variants.{Done, ReservedSpi, AlreadyLive, TableFull, BadPair, NothingToRemove}
 use Rattle.sad.specs.Pairs.{Pair, placeCount, placeWords, ipsec, valueAt, rangesAt, pairAt, liveAt, pairsFrom, pairs, named, namedAt, freeAt, firstFrom, placeOf, freePlace, newPair, pairWords, putAt, addedIf, added, live, reservedSpi, rangesIn, wellFormed, addOutcome, removeOutcome, clearedAt, removed}
-use Rattle.sad.specs.PairsLaws.{first-bound, pairs-live, pairs-free, none-free, removed-none, removed-at}
+use Rattle.sad.specs.PairsLaws.{first-bound, place-bound, pairs-live, pairs-free, none-free, removed-none, removed-at}
 
 -- A place is what its words are.
 module _ (ws ws′ : List ℕ) (i : ℕ) (same : (k : ℕ) → k < placeWords → getD ws (i * placeWords + k) 0 ≡ getD ws′ (i * placeWords + k) 0) where
@@ -117,7 +117,7 @@ module _ (ws ws′ : List ℕ) (j : ℕ) (h : j < placeCount)
 -- A removal takes the pair at its place out, and leaves the others as they are.
 module _ (ws : List ℕ) (protocol spi j : ℕ) (e : placeOf ws protocol spi ≡ At j) (size : length ws ≡ placeCount * placeWords) where
   place-in : j < placeCount
-  place-in = omega (arith, first-bound (namedAt ws protocol spi) 0 placeCount j e)
+  place-in = place-bound ws protocol spi j e
 
   is-named : (liveAt ws j ≡ true) × (named protocol spi (pairAt ws j) ≡ true)
   is-named = both-true (liveAt ws j) (named protocol spi (pairAt ws j)) (first-true (namedAt ws protocol spi) 0 placeCount j e)

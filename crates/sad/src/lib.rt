@@ -9,7 +9,7 @@ ghost use lib.Seq.{paste};
 ghost use Rattle.selectors.specs.Range.{contains, addressSize, protocolSize, portSize};
 ghost use Rattle.selectors.specs.Value.{number, combination};
 ghost use Rattle.normal_form.specs.Search.{holds};
-ghost use Rattle.sad.specs.Pairs.{ipsec, liveAt, pairAt, pairs, namedAt, live, fitting, wanted, beats, chosen, betterOf, bestOf, pairFor, placeOf, freePlace, reservedSpi, rangesIn, wellFormed, endsIn, addOutcome, added, removeOutcome, removed, pairWords, valueAt, rangeAt, rangesAt};
+ghost use Rattle.sad.specs.Pairs.{ipsec, liveAt, pairAt, pairs, namedAt, live, fitsAt, wanted, beats, chosen, betterOf, bestOf, pairFor, placeOf, freePlace, reservedSpi, rangesIn, wellFormed, endsIn, addOutcome, added, removeOutcome, removed, pairWords, valueAt, rangeAt, rangesAt};
 use selectors::AddressRange;
 use selectors::NewAddressRange;
 use selectors::NewPortRange;
@@ -65,7 +65,8 @@ pub enum PairFound {
     Nothing,
 }
 
-enum Place {
+// A place of the table, or none.
+pub enum Place {
     At(usize),
     Nowhere,
 }
@@ -95,12 +96,12 @@ fn is_named(table: &[u64; 1536], place: usize, protocol: u64, spi_in: u64) -> bo
 }
 
 // The place of the live pair of that name.
-fn place_of(table: &[u64; 1536], protocol: u64, spi_in: u64) -> Place
+pub fn place_of(table: &[u64; 1536], protocol: u64, spi_in: u32) -> Place
     ensures { λ r. ⌜ r ≡ placeOf (now (table .entry)) protocol «spi_in» ⌝ }
 {
     let mut place: usize = 0;
     while place < PLACES {
-        if is_named(table, place, protocol, spi_in) {
+        if is_named(table, place, protocol, spi_in as u64) {
             return Place::At(place);
         }
         place += 1;
@@ -112,7 +113,7 @@ fn place_of(table: &[u64; 1536], protocol: u64, spi_in: u64) -> Place
 pub fn is_live(table: &[u64; 1536], protocol: u64, spi_in: u32) -> bool
     ensures { λ r. ⌜ r ≡ live protocol «spi_in» (pairs (now (table .entry))) ⌝ }
 {
-    let found = place_of(table, protocol, spi_in as u64);
+    let found = place_of(table, protocol, spi_in);
     match found {
         Place::At(_) => true,
         Place::Nowhere => false,
@@ -192,15 +193,14 @@ fn ranges_hold(table: &[u64; 1536], place: usize, selectors: Selectors) -> bool
     port_holds(table, at + 16, selectors.remote_port)
 }
 
-// Whether that pair is live and its ranges hold the values.
-pub fn fits(table: &[u64; 1536], protocol: u64, spi_in: u32, selectors: Selectors) -> bool
-    ensures { λ r. ⌜ r ≡ fitting protocol «spi_in» (combination selectors) (pairs (now (table .entry))) ⌝ }
+// Whether there is such a place and its ranges hold the values. Who has the place of a pair need not look for it again.
+pub fn fits_at(table: &[u64; 1536], place: usize, selectors: Selectors) -> bool
+    ensures { λ r. ⌜ r ≡ fitsAt (now (table .entry)) (combination selectors) place ⌝ }
 {
-    let found = place_of(table, protocol, spi_in as u64);
-    let Place::At(place) = found else {
-        return false;
-    };
-    ranges_hold(table, place, selectors)
+    if place < PLACES {
+        return ranges_hold(table, place, selectors);
+    }
+    false
 }
 
 // Whether a place has a live pair with that number whose ranges hold the values.
@@ -437,7 +437,7 @@ pub fn add(table: &mut [u64; 1536], pair: NewPair) -> Outcome
 pub fn remove(table: &mut [u64; 1536], protocol: u64, spi_in: u32) -> Outcome
     ensures { λ r. ⌜ (r ≡ removeOutcome (pairs (now (table .entry))) protocol «spi_in») × (now (table .exit) ≡ removed (now (table .entry)) protocol «spi_in») ⌝ }
 {
-    let found = place_of(table, protocol, spi_in as u64);
+    let found = place_of(table, protocol, spi_in);
     let Place::At(place) = found else {
         return Outcome::NothingToRemove;
     };

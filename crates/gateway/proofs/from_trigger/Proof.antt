@@ -25,14 +25,14 @@ known : (c : tie.After-known-told)
     → readTrigger Out (now (c .before .before .before .before .before .args .header)) ≡ Readable (c .before .reading .given .0 .0)
 known c = sym (c .before .before .before .read-trigger .ensures) ∙ c .before .reading .given .1
 
-fits-requires : tie.Need-fits-requires
-fits-requires c κs = search needs
+fits-at-requires : tie.Need-fits-at-requires
+fits-at-requires c κs = search needs
 
 returns-2 : tie.Need-returns-2
-returns-2 c = rw (known (c .before .before), sym (c .before .fits2 .ensures) ∙ c .if1 .taken)
+returns-2 c = rw (known (c .before .before), sym (c .before .fits-at .ensures) ∙ c .if1 .taken)
 
 returns-3 : tie.Need-returns-3
-returns-3 c = rw (known (c .before .before), sym (c .before .fits2 .ensures) ∙ c .if1 .left)
+returns-3 c = rw (known (c .before .before), sym (c .before .fits-at .ensures) ∙ c .if1 .left)
 
 pub from-trigger-spec : {M : Type 1} → statement M
 from-trigger-spec =
@@ -42,6 +42,6 @@ from-trigger-spec =
     enum-known-reading
     enum-told
     returns
-    fits-requires
+    fits-at-requires
     returns-2
     returns-3)

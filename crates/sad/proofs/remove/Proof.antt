@@ -1,7 +1,5 @@
 -- `sad::remove` meets its contract: the place of the pair, if it has one. Assumes nothing.
-use Rattle.sad.specs.PairsLaws.{first-bound, removed-none, removed-at}
-use Rattle.sad.specs.Pairs.{namedAt}
-use native.Mathlib.Omega.{arith}
+use Rattle.sad.specs.PairsLaws.{place-bound, removed-none, removed-at}
 use Prim.Native.Nat.{_<_}
 use denote.Ref.{now}
 use mathlib.Core.Path.{sym, _∙_}
@@ -13,7 +11,7 @@ use Rattle.sad.proofs.remove.Tie as tie
 found-place : (c : tie.After-known-told) → c .before .found .given .0 .0 < 64
 found-place c =
     let a = c .before .before .before .before .before .args in
-    omega (arith, first-bound (namedAt (now (a .table)) (a .protocol) (a .spi-in)) 0 64 _ (sym (c .before .before .before .place-of .ensures) ∙ c .before .found .given .1))
+    place-bound (now (a .table)) (a .protocol) (a .spi-in) _ (sym (c .before .before .before .place-of .ensures) ∙ c .before .found .given .1)
 
 place-of-requires : tie.Need-place-of-requires
 place-of-requires c κs = search needs
