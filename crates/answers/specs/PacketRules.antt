@@ -15,7 +15,7 @@ use Rattle.packet.specs.declared.Reading.the-variants.{Readable, Unreadable}
 use Rattle.sad.specs.Pairs.{Pair, live, fitting, pairFor}
 use Rattle.sad.specs.declared.PairFound.{PairFound}
 use Rattle.sad.specs.declared.PairFound.the-variants.{Found, Nothing}
-use Rattle.verdicts.specs.Calls.{shows, protected, outboundAction, outboundRead, outboundBy, esp, spiOf, toIpsec, inboundAction, inboundRead, inboundBy, triggerRead, fromSaRead, fromSaBy}
+use Rattle.verdicts.specs.Calls.{shows, protected, outboundAction, outboundRead, outboundBy, esp, spiOf, toIpsec, inboundAction, inboundRead, inboundBy, fitsPair, triggerRead, fromSaRead, fromSaBy}
 use Rattle.verdicts.specs.declared.Verdict.{Verdict}
 use Rattle.verdicts.specs.declared.Verdict.the-variants.{Pass, Deliver, Protect, Wanted, ToIpsec, NotReadable, Discarded, CameInClear, NoSuchPair, DoesNotFit, IpsecFragment, IpsecTooShort, TriggerUnreadable, TriggerDoesNotFit}
 use Rattle.answers.specs.Decides.{Decides, holding, failing, is-true, is-false}
@@ -202,7 +202,7 @@ FromSaRule protocol spi pairs p TriggerDoesNotFit =
 
 module _ (protocol spi : ℕ) (pairs : List Pair) (p : List ℕ) where
   returned-holds : live protocol spi pairs ≡ true → (k : Packet) → readPacket In p ≡ Readable k → fitting protocol spi (shows k) pairs ≡ false
-      → IcmpError k → FromSaRule protocol spi pairs p (triggerRead protocol spi pairs (readTrigger Out (returned p k)))
+      → IcmpError k → FromSaRule protocol spi pairs p (triggerRead (fitsPair protocol spi pairs) (readTrigger Out (returned p k)))
   returned-holds l k r f i = by (readTrigger Out (returned p k)) refl
     where
       fits : (t : Packet) → readTrigger Out (returned p k) ≡ Readable t → (b : Bool) → fitting protocol spi (shows t) pairs ≡ b
@@ -210,7 +210,7 @@ module _ (protocol spi : ℕ) (pairs : List Pair) (p : List ℕ) where
       fits t q true g = (l, k, r, inr (i, t, q, g))
       fits t q false g = (l, k, r, f, i, t, q, g)
 
-      by : (q : Reading) → readTrigger Out (returned p k) ≡ q → FromSaRule protocol spi pairs p (triggerRead protocol spi pairs q)
+      by : (q : Reading) → readTrigger Out (returned p k) ≡ q → FromSaRule protocol spi pairs p (triggerRead (fitsPair protocol spi pairs) q)
       by (Readable t) q = fits t q (fitting protocol spi (shows t) pairs) refl
       by Unreadable q = (l, k, r, f, i, header-unreadable Out (returned p k) .0 q)
 
@@ -220,13 +220,13 @@ module _ (protocol spi : ℕ) (pairs : List Pair) (p : List ℕ) where
     where
       errs : live protocol spi pairs ≡ true → (k : Packet) → readPacket In p ≡ Readable k → fitting protocol spi (shows k) pairs ≡ false
           → {b : Bool} → Decides (IcmpError k) b
-          → FromSaRule protocol spi pairs p (cond b (triggerRead protocol spi pairs (readTrigger Out (returned p k))) DoesNotFit)
+          → FromSaRule protocol spi pairs p (cond b (triggerRead (fitsPair protocol spi pairs) (readTrigger Out (returned p k))) DoesNotFit)
       errs l k r f (holding i) = returned-holds l k r f i
       errs l k r f (failing i) = (l, k, r, f, i)
 
       fits : live protocol spi pairs ≡ true → (k : Packet) → readPacket In p ≡ Readable k → (b : Bool) → fitting protocol spi (shows k) pairs ≡ b
           → FromSaRule protocol spi pairs p (cond b Deliver
-          (cond (icmpError (protocolOf k) (typeAndCode k)) (triggerRead protocol spi pairs (readTrigger Out (returned p k))) DoesNotFit))
+          (cond (icmpError (protocolOf k) (typeAndCode k)) (triggerRead (fitsPair protocol spi pairs) (readTrigger Out (returned p k))) DoesNotFit))
       fits l k r true f = (l, k, r, inl f)
       fits l k r false f = errs l k r f (icmp-decides k)
 
@@ -241,7 +241,7 @@ module _ (protocol spi : ℕ) (pairs : List Pair) (p : List ℕ) where
 
   -- What does not fit itself and is an ICMP error: the triggering header decides.
   error-read : live protocol spi pairs ≡ true → (k : Packet) → readPacket In p ≡ Readable k → fitting protocol spi (shows k) pairs ≡ false
-      → IcmpError k → fromSaBy protocol spi pairs p ≡ triggerRead protocol spi pairs (readTrigger Out (returned p k))
+      → IcmpError k → fromSaBy protocol spi pairs p ≡ triggerRead (fitsPair protocol spi pairs) (readTrigger Out (returned p k))
   unfolding fromSaBy
   error-read l k r f i = rw (l, r, f, is-true (icmp-decides k) i)
 

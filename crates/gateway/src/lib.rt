@@ -1,11 +1,10 @@
 // The gateway's packet calls (document 01, 'Three doors').
 ghost use mathlib.Core.Path.{_≡_};
 ghost use Rattle.packet.specs.Read.{readTrigger};
-ghost use Rattle.sad.specs.Pairs.{pairs};
+ghost use Rattle.sad.specs.Pairs.{pairs, fitsAt};
 ghost use Rattle.spd_words.specs.Words.{rowsOf, addressOf};
-ghost use Rattle.verdicts.specs.Calls.{fromSaBy};
+ghost use Rattle.verdicts.specs.Calls.{triggerRead, fromSaBy};
 ghost use Rattle.gateway.specs.Cached.{outboundCached, inboundCached};
-ghost use Rattle.gateway.specs.Trigger.{triggerAt};
 use own_ipsec::Own;
 use packet::Reading;
 use sad::Place;
@@ -79,7 +78,7 @@ pub fn inbound(
 
 // The triggering header of an ICMP error message that came from the association at a place. It is read as going out.
 fn from_trigger(table: &[u64; 1536], place: usize, header: &[u8]) -> Verdict
-    ensures { λ r. ⌜ r ≡ triggerAt (now (table .entry)) place (readTrigger Direction.Out (now (header .entry))) ⌝ }
+    ensures { λ r. ⌜ r ≡ triggerRead (fitsAt (now (table .entry)) place) (readTrigger Direction.Out (now (header .entry))) ⌝ }
 {
     let reading = packet::read_trigger(header, Direction::Out);
     let Reading::Readable(packet) = reading else {

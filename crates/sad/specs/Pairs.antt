@@ -122,8 +122,8 @@ abbrev pub placeOf : List ℕ → ℕ → ℕ → Place
 placeOf ws protocol spi = firstFrom (namedAt ws protocol spi) 0 placeCount
 
 -- Whether there is such a place and its ranges hold the values. That a pair lives there is not asked.
-unfoldable pub fitsAt : List ℕ → List ℕ → ℕ → Bool
-fitsAt ws vs i = ltb i placeCount && holds (pairAt ws i .ranges) vs
+unfoldable pub fitsAt : List ℕ → ℕ → List ℕ → Bool
+fitsAt ws i vs = ltb i placeCount && holds (pairAt ws i .ranges) vs
 
 -- The lowest free place.
 abbrev pub freeAt : List ℕ → ℕ → Bool

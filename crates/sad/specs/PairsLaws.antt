@@ -169,7 +169,7 @@ module _ (ws : List ℕ) (protocol spi : ℕ) where
     pub place-bound : i < placeCount
     place-bound = omega (arith, first-bound (namedAt ws protocol spi) 0 placeCount i e)
 
-    pub fitting-at : (vs : List ℕ) → fitting protocol spi vs (pairs ws) ≡ fitsAt ws vs i
+    pub fitting-at : (vs : List ℕ) → fitting protocol spi vs (pairs ws) ≡ fitsAt ws i vs
     unfolding fitting fitsAt
     fitting-at vs =
         decided-at ws protocol spi (fitting protocol spi vs) (λ q. holds (q .ranges) vs) refl (λ q qs. refl) 0 placeCount

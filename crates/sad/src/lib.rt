@@ -195,7 +195,7 @@ fn ranges_hold(table: &[u64; 1536], place: usize, selectors: Selectors) -> bool
 
 // Whether there is such a place and its ranges hold the values. Who has the place of a pair need not look for it again.
 pub fn fits_at(table: &[u64; 1536], place: usize, selectors: Selectors) -> bool
-    ensures { λ r. ⌜ r ≡ fitsAt (now (table .entry)) (combination selectors) place ⌝ }
+    ensures { λ r. ⌜ r ≡ fitsAt (now (table .entry)) place (combination selectors) ⌝ }
 {
     if place < PLACES {
         return ranges_hold(table, place, selectors);

@@ -29,7 +29,7 @@ use Rattle.spd.specs.SpdLaws.{spd-search}
 use Rattle.sad.specs.Pairs.{Pair, pairs, live}
 use Rattle.verdicts.specs.declared.Verdict.{Verdict}
 use Rattle.verdicts.specs.declared.Verdict.the-variants.{NoSuchPair}
-use Rattle.verdicts.specs.Calls.{shows, outboundAction, outboundRead, outboundBy, spiOf, toIpsec, inboundRead, inboundBy, triggerRead, fromSaRead, fromSaBy}
+use Rattle.verdicts.specs.Calls.{shows, outboundAction, outboundRead, outboundBy, spiOf, toIpsec, inboundRead, inboundBy, fitsPair, triggerRead, fromSaRead, fromSaBy}
 use Rattle.gateway.specs.Cached.{outboundCached, inboundCached}
 use Rattle.sequences.specs.Sequence.{Gateway, Call, policy, add, remove, outbound, inbound, fromSa, fresh, run, goesOut, comesIn, forPair, forPacket, answered}
 use Rattle.sequences.specs.Current.{current, livePairs, ruled, OfBytes}
@@ -93,7 +93,7 @@ unfolding fromSaBy
 from-sa-alike qs rs h protocol spi p =
     rw (live-alike qs rs h protocol spi) (ap (λ (v : Verdict). cond (live protocol spi rs) v NoSuchPair) (by (readPacket In p)))
   where
-    triggered : (r : Reading) → triggerRead protocol spi qs r ≡ triggerRead protocol spi rs r
+    triggered : (r : Reading) → triggerRead (fitsPair protocol spi qs) r ≡ triggerRead (fitsPair protocol spi rs) r
     triggered (Readable k) = rw (fitting-alike qs rs h protocol spi (shows k))
     triggered Unreadable = refl
 

@@ -79,17 +79,21 @@ inboundRead search address pairs p Unreadable = NotReadable
 unfoldable pub inboundBy : (List ℕ → Action) → ℕ → List Pair → List ℕ → Verdict
 inboundBy search address pairs p = inboundRead search address pairs p (readPacket In p)
 
+-- Whether values fit the ranges of the pair of that name.
+abbrev pub fitsPair : ℕ → ℕ → List Pair → List ℕ → Bool
+fitsPair protocol spi pairs vs = fitting protocol spi vs pairs
+
 -- 'Unreadable: 17. Read as going out …, does it fit the ranges? Yes: 1. No: 18.'
-abbrev pub triggerRead : ℕ → ℕ → List Pair → Reading → Verdict
-triggerRead protocol spi pairs (Readable k) = cond (fitting protocol spi (shows k) pairs) Deliver TriggerDoesNotFit
-triggerRead protocol spi pairs Unreadable = TriggerUnreadable
+abbrev pub triggerRead : (List ℕ → Bool) → Reading → Verdict
+triggerRead fit (Readable k) = cond (fit (shows k)) Deliver TriggerDoesNotFit
+triggerRead fit Unreadable = TriggerUnreadable
 
 -- 'Read (10). Values in its ranges: 1. Otherwise, unless it is ICMP with a seen type 3, 4, 5, 11 or 12: 14. For those the triggering header'.
 abbrev pub fromSaRead : ℕ → ℕ → List Pair → List ℕ → Reading → Verdict
 fromSaRead protocol spi pairs p (Readable k) =
     cond (fitting protocol spi (shows k) pairs) Deliver
     (cond (icmpError (number (k .selectors .protocol)) (number (k .selectors .«local_port»)))
-    (triggerRead protocol spi pairs (readTrigger Out (triggerOf p (k .upper) (k .end))))
+    (triggerRead (fitsPair protocol spi pairs) (readTrigger Out (triggerOf p (k .upper) (k .end))))
     DoesNotFit)
 fromSaRead protocol spi pairs p Unreadable = NotReadable
 
