@@ -20,16 +20,15 @@ use Rattle.policy.specs.declared.Action.{Action}
 use Rattle.policy.specs.declared.Action.the-variants.{Discard}
 use Rattle.policy.specs.Action.{action-≟}
 use Rattle.policy.specs.Policy.{PolicyRow, orderedSearch}
-use Rattle.policy.specs.PolicyLaws.{same-normal-form}
-use Rattle.policy.specs.Words.{actionOf, actionWord, policyRows}
+use Rattle.policy.specs.Words.{actionOf, actionWord}
 use Rattle.policy.specs.WordsLaws.{word-action}
 use Rattle.layout.specs.Parting.{parting-≟, agreed, parted, partingAt, differenceForm}
 use Rattle.layout.specs.Laid.{sizesOf, roomFor, Outcome}
 use Rattle.layout.specs.declared.Point.{Point}
 use Rattle.layout.specs.declared.Laid.{Laid}
 use Rattle.layout.specs.declared.Laid.the-variants.{Rows, Over, NoRoom}
-use Rattle.decorrelate.specs.Form.{form, formWords}
-use Rattle.decorrelate.specs.FormLaws.{Counted, counted, form-search}
+use Rattle.decorrelate.specs.Form.{form}
+use Rattle.decorrelate.specs.FormLaws.{Counted, counted}
 use Rattle.decorrelate.specs.Agree.{Agree}
 
 module _ {A : Type 0} (same? : Discrete A) (none : A) where
@@ -112,21 +111,3 @@ answers-agree limit highest d ps qs room room′ r enough o sizes =
     let e : D ≡ differenceForm ipv4Sizes d ps qs = rw sizes in
     let agree = difference-none ipv4Sizes d ps qs in
     (λ h. agree .0 (sym e ∙ none .0 h), λ h. none .1 (e ∙ agree .1 h))
-
--- Two policies agree exactly where their normal forms have the same words.
-pub words-agree : (d : Direction) (ps qs : List PolicyRow) → (formWords (form d qs) ≡ formWords (form d ps)) ↔ Agree ipv4Sizes d ps qs
-words-agree d ps qs = (
-  λ e vs ok.
-      sym (form-search d ps d vs ok) ∙ ap (λ (ws : List ℕ). orderedSearch d (policyRows ws) vs) (sym e) ∙ form-search d qs d vs ok,
-  λ same. ap formWords (sym (same-normal-form ipv4Sizes d ps qs .1 same)),
-)
-
--- So where one's is within the limit, the other must have those words and be within the limit too.
-pub forms-agree : (limit : ℕ) (d : Direction) (ps qs : List PolicyRow) → length (form d ps) ≤ limit
-    → ((length (form d qs) ≤ limit) × (formWords (form d qs) ≡ formWords (form d ps))) ↔ Agree ipv4Sizes d ps qs
-forms-agree limit d ps qs h = (
-  λ e. words-agree d ps qs .0 (e .1),
-  λ same.
-      let f : form d ps ≡ form d qs = same-normal-form ipv4Sizes d ps qs .1 same in
-      (rw (← f) h, words-agree d ps qs .1 same),
-)

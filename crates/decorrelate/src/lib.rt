@@ -9,7 +9,7 @@ ghost use Rattle.policy.specs.Words.{policyRows, rowLimit, policyWords};
 ghost use Rattle.layout.specs.Parting.{differenceForm};
 ghost use Rattle.layout.specs.Laid.{sizesOf, Outcome};
 ghost use Rattle.decorrelate.specs.Agree.{Agree};
-ghost use Rattle.decorrelate.specs.Form.{form, formWords, padded, formAnswer, formAfter, FormOutcome};
+ghost use Rattle.decorrelate.specs.Form.{padded, formAnswer, formAfter, FormOutcome};
 use layout::Laid;
 use layout::Point;
 use layout::ROOM_WORDS;
@@ -131,37 +131,8 @@ pub fn form_of(rows: &[u64], direction: Direction, form: &mut [u64; POLICY_WORDS
     }
 }
 
-fn same_words(a: &[u64], b: &[u64]) -> bool
-    ensures { λ r. ⌜ (r ≡ true) ↔ (now (a .entry) ≡ now (b .entry)) ⌝ }
-{
-    if a.len() != b.len() {
-        return false;
-    }
-    let mut i: usize = 0;
-    while i < a.len() {
-        if a[i] != b[i] {
-            return false;
-        }
-        i += 1;
-    }
-    true
-}
-
-// Whether the normal form of a policy is within the limit and has these words.
-fn has_form(rows: &[u64], direction: Direction, words: &[u64]) -> bool
-    ensures { λ r. ⌜ (r ≡ true) ↔ ((length (form direction (policyRows (now (rows .entry)))) ≤ rowLimit) × (formWords (form direction (policyRows (now (rows .entry)))) ≡ now (words .entry))) ⌝ }
-{
-    let mut room = [0u64; FORM_ROOM];
-    let laid = normal_form(rows, direction, &mut room);
-    match laid {
-        Laid::Rows(n) => same_words(&room[..n * ROW_WORDS], words),
-        Laid::Over => false,
-        Laid::NoRoom => false,
-    }
-}
-
-// Whether the difference of two policies of IPv4 has no rows.
-fn no_difference(first: &[u64], second: &[u64], direction: Direction) -> bool
+// Whether two policies of IPv4 give every combination the same action in a direction: their difference has no rows.
+pub fn same(first: &[u64], second: &[u64], direction: Direction) -> bool
     ensures { λ r. ⌜ (r ≡ true) ↔ Agree ipv4Sizes direction (policyRows (now (first .entry))) (policyRows (now (second .entry))) ⌝ }
 {
     let mut room = [0u64; ROOM_WORDS];
@@ -171,17 +142,4 @@ fn no_difference(first: &[u64], second: &[u64], direction: Direction) -> bool
         Laid::Over => false,
         Laid::NoRoom => false,
     }
-}
-
-// Whether two policies of IPv4 give every combination the same action in a direction: whether their normal forms are the same. Where the first one's
-// has more rows than the limit, their difference is asked for, which takes longer.
-pub fn same(first: &[u64], second: &[u64], direction: Direction) -> bool
-    ensures { λ r. ⌜ (r ≡ true) ↔ Agree ipv4Sizes direction (policyRows (now (first .entry))) (policyRows (now (second .entry))) ⌝ }
-{
-    let mut words = [0u64; POLICY_WORDS];
-    let laid = form_of(first, direction, &mut words);
-    let Form::Rows(n) = laid else {
-        return no_difference(first, second, direction);
-    };
-    has_form(second, direction, &words[..n * ROW_WORDS])
 }

@@ -1,23 +1,34 @@
--- `decorrelate::same` meets its contract: policies agree exactly where their normal forms have the same words. Assumes nothing.
-use native.Mathlib.Omega.{arith}
-use mathlib.Core.Path.{sym, _∙_}
-use lib.ListN.{length-take}
+-- `decorrelate::same` meets its contract: policies agree exactly where their difference has no rows. Assumes nothing.
+use mathlib.Core.Path.{_≡_, refl, subst}
+use mathlib.Core.Bool.{true}
+use mathlib.Core.Logic.{_↔_}
 use denote.Ref.{now}
 use borrow.Author.Needs.{needs}
-use Rattle.policy.specs.Words.{policyRows, rowLimit}
-use Rattle.decorrelate.specs.RoomLaws.{Held, held}
-use Rattle.decorrelate.specs.AgreeLaws.{forms-agree}
+use Rattle.selectors.specs.Range.{ipv4Sizes}
+use Rattle.policy.specs.Words.{policyRows}
+use Rattle.layout.specs.declared.Laid.{Laid}
+use Rattle.layout.specs.declared.Laid.the-variants.{Rows, Over, NoRoom}
+use Rattle.decorrelate.specs.Agree.{Agree}
+use Rattle.decorrelate.specs.AgreeLaws.{noRows, answers-agree}
+use Rattle.decorrelate.specs.FormLaws.{ipv4-highest}
 use Rattle.decorrelate.proofs.same.Statement.{statement}
 use Rattle.decorrelate.proofs.same.Tie as tie
 
--- The first policy's normal form stands in the room.
-own : (c : tie.After-laid)
-    → Held (c .before .before .before .before .before .before .args .direction) (policyRows (now (c .before .before .before .before .before .before .args .first)))
-    (c .laid .given .0 .0) (c .before .before .form-of .last .1 .1 .0)
-own c = let f = c .before .before .form-of in held _ _ _ _ _ (sym (f .ensures .0) ∙ c .laid .given .1) (f .ensures .1)
+-- What the difference's answer says of the policies.
+says : (c : tie.After-difference) (r : Laid) → c .difference .result ≡ r
+    → (noRows r ≡ true)
+    ↔ Agree ipv4Sizes (c .before .before .before .before .args .direction) (policyRows (now (c .before .before .before .before .args .first))) (policyRows (now (c .before .before .before .before .args .second)))
+says c r e =
+    let s = c .before .before .before .before in
+    subst
+    (λ (q : Laid). (noRows q ≡ true) ↔ Agree ipv4Sizes (s .args .direction) (policyRows (now (s .args .first))) (policyRows (now (s .args .second)))) e
+    (answers-agree 1 _ (s .args .direction) _ _ _ _ _ (search needs) (c .difference .ensures) (ipv4-highest _ refl))
 
-form-of-requires : tie.Need-form-of-requires
-form-of-requires c κs = search needs
+slice-aggregate-difference : tie.Need-slice-aggregate-difference
+slice-aggregate-difference c = search needs
+
+difference-requires : tie.Need-difference-requires
+difference-requires c κs = search needs
 
 enum-known-laid : tie.Need-enum-known-laid
 enum-known-laid c = search needs
@@ -25,43 +36,29 @@ enum-known-laid c = search needs
 enum-told : tie.Need-enum-told
 enum-told c = search needs
 
-no-difference-requires : tie.Need-no-difference-requires
-no-difference-requires c κs = search needs
+enum-told-2 : tie.Need-enum-told-2
+enum-told-2 c = search needs
 
 returns : tie.Need-returns
-returns c = search needs
-
-mul-words : tie.Need-mul-words
-mul-words c = let h = own (c .before) .few in search needs
-
-array-share-prefix-words : tie.Need-array-share-prefix-words
-array-share-prefix-words c = let h = own (c .before) in omega (arith, h .few, h .size)
-
-slice-aggregate-has-form : tie.Need-slice-aggregate-has-form
-slice-aggregate-has-form c = let h = own (c .before .before) in simp length-take (omega (arith, h .few, h .size))
-
-has-form-requires : tie.Need-has-form-requires
-has-form-requires c κs = search needs
+returns c =
+    let l = c .before in
+    says (l .before .before .before) (Rows (l .laid .given .0 .0)) (l .laid .given .1)
 
 returns-2 : tie.Need-returns-2
-returns-2 c =
-    let l = c .before .before .before in
-    let a = l .before .before .before .before .before .before .args in
-    let h = own l in
-    let agree = forms-agree rowLimit (a .direction) (policyRows (now (a .first))) (policyRows (now (a .second))) (omega (arith, h .few, h .rows)) in
-    (λ t. agree .0 (rw (h .front) at (c .has-form .ensures .0 t)), λ e. c .has-form .ensures .1 (rw (h .front) (agree .1 e)))
+returns-2 c = says (c .before .before .before) Over (c .enum-told .given .1)
+
+returns-3 : tie.Need-returns-3
+returns-3 c = says (c .before .before .before) NoRoom (c .enum-told2 .given .1)
 
 pub same-spec : {M : Type 1} → statement M
 same-spec =
     tie.close
     (tie.spec
-    form-of-requires
+    slice-aggregate-difference
+    difference-requires
     enum-known-laid
     enum-told
-    no-difference-requires
+    enum-told-2
     returns
-    mul-words
-    array-share-prefix-words
-    slice-aggregate-has-form
-    has-form-requires
-    returns-2)
+    returns-2
+    returns-3)
