@@ -20,7 +20,7 @@ use prune::Pruned;
 use selectors::Direction;
 
 // The words of the room that a normal form asks for.
-pub const FORM_ROOM: usize = LIMIT * ROOM_WORDS;
+const FORM_ROOM: usize = LIMIT * ROOM_WORDS;
 
 // The count of a normal form's rows, or that it has more than the limit.
 pub enum Form {
@@ -87,8 +87,8 @@ pub fn difference(
     }
 }
 
-// Lays out the normal form of a policy of IPv4 for a direction: its words stand at the start of the room; the rest is scratch.
-pub fn normal_form(rows: &[u64], direction: Direction, room: &mut [u64]) -> Laid
+// Lays out the normal form of a policy of IPv4 for a direction: its words stand at the start of the room, and the rest is scratch.
+fn normal_form(rows: &[u64], direction: Direction, room: &mut [u64]) -> Laid
     ensures { λ r. ⌜ FormOutcome rowLimit direction (policyRows (now (rows .entry))) (now (room .entry)) (now (room .exit)) r ⌝ }
 {
     difference(rows, &rows[..0], direction, IPV4, LIMIT, room)
@@ -114,7 +114,8 @@ fn fill(words: &mut [u64], from: &[u64], used: usize)
     }
 }
 
-// The same in a room for the limit's rows, with zeros after the normal form's words; more rows leave it as it was.
+// The normal form of a policy of IPv4 for a direction in a room for the limit's rows: its words, and zeros after them. More rows than the limit
+// leave the room as it was.
 pub fn form_of(rows: &[u64], direction: Direction, form: &mut [u64; POLICY_WORDS]) -> Form
     ensures { λ r. ⌜ r ≡ formAnswer rowLimit direction (policyRows (now (rows .entry))) ⌝ }
     ensures { λ _. ⌜ now (form .exit) ≡ formAfter rowLimit direction (policyRows (now (rows .entry))) (now (form .entry)) ⌝ }

@@ -6,8 +6,7 @@ ghost use Rattle.policy_text.specs.Format.{rows, parsePolicy};
 ghost use Rattle.policy_print.specs.Printing.{printed, printedIn, printedRoom};
 ghost use Rattle.normaliser.specs.Normalise.{normalised, normalisedBytes};
 ghost use Rattle.normaliser.specs.Steps.{answered};
-use decorrelate::FORM_ROOM;
-use layout::Laid;
+use decorrelate::Form;
 use policy::LIMIT;
 use policy::POLICY_WORDS;
 use policy::ROW_WORDS;
@@ -48,12 +47,11 @@ fn print_form(policy: &[u64], direction: Direction, out: &mut [u8]) -> Normalise
     ensures { λ r. ⌜ r ≡ normalised rowLimit direction (length (now (out .entry))) (rows (policyRows (now (policy .entry)))) ⌝ }
     ensures { λ _. ⌜ now (out .exit) ≡ normalisedBytes rowLimit direction (now (out .entry)) (rows (policyRows (now (policy .entry)))) ⌝ }
 {
-    let mut room = [0u64; FORM_ROOM];
-    let laid = decorrelate::normal_form(policy, direction, &mut room);
-    match laid {
-        Laid::Rows(n) => print_rows(&room[..n * ROW_WORDS], direction, out),
-        Laid::Over => Normalised::TooLarge(direction),
-        Laid::NoRoom => Normalised::NoRoom,
+    let mut words = [0u64; POLICY_WORDS];
+    let form = decorrelate::form_of(policy, direction, &mut words);
+    match form {
+        Form::Rows(n) => print_rows(&words[..n * ROW_WORDS], direction, out),
+        Form::Over => Normalised::TooLarge(direction),
     }
 }
 
