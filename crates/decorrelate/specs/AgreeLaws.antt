@@ -1,21 +1,17 @@
--- A normal form without rows, and so a difference without rows: the policies agree. Assumes nothing.
+-- A difference without rows: the policies agree. Assumes nothing.
 use Prim.Native.Nat.{ℕ, _≤_}
 use native.Mathlib.Omega.{arith}
 use native.Mathlib.Decide.{ℕ-discrete}
 use mathlib.Core.Path.{_≡_, refl, sym, ap, _∙_}
 use mathlib.Core.Bool.{Bool, true, false, false≢true}
-use mathlib.Core.List.{List, [], _∷_, List·Memᴰ, List·Memᴰ·head, List·Memᴰ·not-nil, cons-ne-nil}
-use mathlib.Core.Logic.{_↔_, ⊎-elim}
+use mathlib.Core.List.{List, [], _∷_, cons-ne-nil}
+use mathlib.Core.Logic.{_↔_}
 use lib.Dec.{eqb}
 use lib.ListN.{length}
 use borrow.Author.Tests.{ne-eqb, eq-eqb, eqb-true}
 use Rattle.selectors.specs.Range.{ipv4Sizes}
 use Rattle.selectors.specs.declared.Direction.{Direction}
-use Rattle.normal_form.specs.Search.{Row, Combination, find}
-use Rattle.normal_form.specs.NormalForm.{normalForm}
-use Rattle.normal_form.specs.RunsLaws.{runs-longest}
-use Rattle.normal_form.specs.Laws.{leaf-cases, search-normal-form}
-use Rattle.normal_form.specs.Shape.{rows-mem}
+use Rattle.normal_form.specs.Shape.{normal-form-empty}
 use Rattle.policy.specs.declared.Action.{Action}
 use Rattle.policy.specs.declared.Action.the-variants.{Discard}
 use Rattle.policy.specs.Action.{action-≟}
@@ -30,28 +26,6 @@ use Rattle.layout.specs.declared.Laid.the-variants.{Rows, Over, NoRoom}
 use Rattle.decorrelate.specs.Form.{form}
 use Rattle.decorrelate.specs.FormLaws.{Counted, counted}
 use Rattle.decorrelate.specs.Agree.{Agree}
-
-module _ {A : Type 0} (same? : Discrete A) (none : A) where
-  no-row : (sizes : List ℕ) (f : List ℕ → A) → ((vs : List ℕ) → Combination sizes vs → f vs ≡ none)
-      → (r : Row A) → List·Memᴰ r (normalForm same? none sizes f) → ⊥
-  unfolding normalForm Combination
-  no-row [] f e r m = ⊎-elim (λ c. List·Memᴰ·not-nil (rw (c .1) at m)) (λ c. c .0 (e [] tt)) (leaf-cases same? none f)
-  no-row (S ∷ Ss) f e r m =
-      let i = rows-mem _ _ _ (runs-longest same? (λ u. normalForm same? none Ss (λ us. f (u ∷ us))) S) r m in
-      no-row Ss (λ us. f (i .0 ∷ us)) (λ vs ok. e (i .0 ∷ vs) (omega (arith, i .3, i .4), ok)) (i .2) (i .5)
-
-  no-member : (L : List (Row A)) → ((r : Row A) → List·Memᴰ r L → ⊥) → L ≡ []
-  no-member [] n = refl
-  no-member (r ∷ L) n = absurd (n r (List·Memᴰ·head refl))
-
-  -- A normal form has no rows exactly where the function has no leaf but `none`.
-  pub normal-form-empty : (sizes : List ℕ) (f : List ℕ → A)
-      → (normalForm same? none sizes f ≡ []) ↔ ((vs : List ℕ) → Combination sizes vs → f vs ≡ none)
-  unfolding find
-  normal-form-empty sizes f = (
-    λ e vs ok. sym (search-normal-form same? none sizes f vs ok) ∙ ap (λ (L : List (Row A)). find none L vs) e,
-    λ e. no-member (normalForm same? none sizes f) (no-row sizes f e),
-  )
 
 -- The policy without rows has a normal form without rows.
 pub empty-form : (d : Direction) → form d [] ≡ []

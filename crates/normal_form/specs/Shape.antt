@@ -7,7 +7,7 @@ use mathlib.Core.Path.{_≡_, refl, sym, _∙_, ap}
 use mathlib.Core.Bool.{Bool, true, false, false≢true}
 use mathlib.Core.Option.{some, Option·none-ne-some}
 use mathlib.Core.List.{List, [], _∷_, _++_, map, List·Memᴰ, List·Memᴰ·head, List·Memᴰ·tail, List·Memᴰ·not-nil, List·Memᴰ·cases-cons, List·Memᴰ·append-cases, List·Memᴰ·eq-of-singleton, Memᴰ·of-map}
-use mathlib.Core.Logic.{_≢_, _⊎_, inl, inr, ⊎-elim}
+use mathlib.Core.Logic.{_≢_, _↔_, _⊎_, inl, inr, ⊎-elim}
 use lib.ListN.{getElem?, length, length-append, length-map}
 use Rattle.selectors.specs.Range.{Range}
 use Rattle.normal_form.specs.Search.{Row, Combination, holds, find}
@@ -203,3 +203,24 @@ module _ {A : Type 0} (same? : Discrete A) (none : A) where
       → getElem? (normalForm same? none sizes f) i ≡ some r → getElem? (normalForm same? none sizes f) j ≡ some q
       → (vs : List ℕ) → holds (r .ranges) vs ≡ true → holds (q .ranges) vs ≡ true → i ≡ j
   normal-form-one sizes f = one-place (normalForm same? none sizes f) (normal-form-sorted sizes f)
+
+  no-row : (sizes : List ℕ) (f : List ℕ → A) → ((vs : List ℕ) → Combination sizes vs → f vs ≡ none)
+      → (r : Row A) → List·Memᴰ r (normalForm same? none sizes f) → ⊥
+  unfolding normalForm Combination
+  no-row [] f e r m = ⊎-elim (λ c. List·Memᴰ·not-nil (rw (c .1) at m)) (λ c. c .0 (e [] tt)) (leaf-cases same? none f)
+  no-row (S ∷ Ss) f e r m =
+      let i = rows-mem _ _ _ (runs-longest same? (λ u. normalForm same? none Ss (λ us. f (u ∷ us))) S) r m in
+      no-row Ss (λ us. f (i .0 ∷ us)) (λ vs ok. e (i .0 ∷ vs) (omega (arith, i .3, i .4), ok)) (i .2) (i .5)
+
+  no-member : (L : List (Row A)) → ((r : Row A) → List·Memᴰ r L → ⊥) → L ≡ []
+  no-member [] n = refl
+  no-member (r ∷ L) n = absurd (n r (List·Memᴰ·head refl))
+
+  -- A normal form has no rows exactly where the function has no leaf but `none`.
+  pub normal-form-empty : (sizes : List ℕ) (f : List ℕ → A)
+      → (normalForm same? none sizes f ≡ []) ↔ ((vs : List ℕ) → Combination sizes vs → f vs ≡ none)
+  unfolding find
+  normal-form-empty sizes f = (
+    λ e vs ok. sym (search-normal-form same? none sizes f vs ok) ∙ ap (λ (L : List (Row A)). find none L vs) e,
+    λ e. no-member (normalForm same? none sizes f) (no-row sizes f e),
+  )
