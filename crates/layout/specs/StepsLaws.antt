@@ -62,6 +62,11 @@ module _ (from best last : ℕ) where
       → Ends from best last (AlikeTo (fromTo low high) from last) → Ends from best last (P → AlikeTo (rangeAt ws at) from last)
   ends-row ws at low high e g t = record { reaches = t .reaches; within = t .within; alike = λ p. rw (e, g) at (t .alike) }
 
+  -- A range that ends nothing earlier, in whatever row.
+  pub ends-whole : {P : Type 0} (ws : List ℕ) (at : ℕ) (low high : Value) → low ≡ valueAt ws at → high ≡ valueAt ws (at + 2)
+      → Ends from best last (AlikeTo (fromTo low high) from last) → best ≤ last → Ends from best best (P → AlikeTo (rangeAt ws at) from best)
+  ends-whole {P} ws at low high e g t h = let k : last ≡ best = omega (arith, t .within) in rw k at (ends-row {P = P} ws at low high e g t)
+
 module _ (d : Direction) (ws : List ℕ) (f : ℕ) (before : List ℕ) (from : ℕ) where
   -- A value up to the last one, as well.
   among-less : (n last last′ : ℕ) → last′ ≤ last → AlikeAmong d ws n f before from last → AlikeAmong d ws n f before from last′

@@ -170,7 +170,7 @@ fn alike_to(low: Value, high: Value, from: Value, best: Value) -> Value
     smaller(high, best)
 }
 
-// The same for the range of a field in a row, if the row is active.
+// The same for the range of a field in a row, if the row is active: that is asked last, since most ranges end nothing earlier.
 fn row_end(
     rows: &[u64],
     row: usize,
@@ -184,13 +184,17 @@ fn row_end(
     requires { ⌜ number from ≤ number best ⌝ }
     ensures { λ r. ⌜ Ends (number from) (number best) (number r) (isActive direction (now (rows .entry)) row field (valuesFrom (point .words) 0 field) ≡ true → AlikeTo (rangeOf (now (rows .entry)) row field) (number from) (number r)) ⌝ }
 {
-    if !active(rows, row, direction, point, field) {
-        return best;
-    }
     let at = row * ROW_WORDS + 2 + 4 * field;
     let low = value_at(rows, at);
     let high = value_at(rows, at + 2);
-    alike_to(low, high, from, best)
+    let end = alike_to(low, high, from, best);
+    if !end.less(best) {
+        return best;
+    }
+    if !active(rows, row, direction, point, field) {
+        return best;
+    }
+    end
 }
 
 // The same for all rows of a policy.
