@@ -16,6 +16,7 @@ ghost use Rattle.layout.specs.Parting.{differenceForm};
 ghost use Rattle.layout.specs.Steps.{Ends, AlikeTo, AlikeIn, Put, Stamped, Placed, LaidOut, fieldForm, valueForm, wordsFor};
 use policy::Found;
 use policy::ROW_WORDS;
+use selectors::AddressRange;
 use selectors::Direction;
 use selectors::Selectors;
 use selectors::Value;
@@ -54,14 +55,15 @@ struct Kept {
 
 const ZERO: Value = Value { upper: 0, lower: 0 };
 
-fn point_value(point: Point, field: usize) -> Value
+// A point's value of a field.
+fn point_value(point: &[u64; 10], field: usize) -> Value
     requires { ⌜ field < 5 ⌝ }
-    ensures { λ r. ⌜ r ≡ valueAt (point .words) (2 * field) ⌝ }
+    ensures { λ r. ⌜ r ≡ valueAt (now (point .entry)) (2 * field) ⌝ }
 {
     let at = 2 * field;
     Value {
-        upper: point.words[at],
-        lower: point.words[at + 1],
+        upper: point[at],
+        lower: point[at + 1],
     }
 }
 
@@ -90,16 +92,15 @@ fn range_holds(rows: &[u64], at: usize, value: Value) -> bool
     requires { ⌜ at + 4 ≤ length (now rows) ⌝ }
     ensures { λ r. ⌜ r ≡ contains (rangeAt (now (rows .entry)) at) (number value) ⌝ }
 {
-    if value.less(value_at(rows, at)) {
-        return false;
-    }
-    !value_at(rows, at + 2).less(value)
+    let low = value_at(rows, at);
+    let high = value_at(rows, at + 2);
+    AddressRange { low, high }.holds(value)
 }
 
 // Whether a row's ranges hold the point's values in the fields before `field`.
-fn ranges_hold(rows: &[u64], row: usize, point: Point, field: usize) -> bool
+fn ranges_hold(rows: &[u64], row: usize, point: &[u64; 10], field: usize) -> bool
     requires { ⌜ (field ≤ 5) × (row * 22 + 22 ≤ length (now rows)) ⌝ }
-    ensures { λ r. ⌜ r ≡ holds (rangesFrom (now (rows .entry)) row 0 field) (valuesFrom (point .words) 0 field) ⌝ }
+    ensures { λ r. ⌜ r ≡ holds (rangesFrom (now (rows .entry)) row 0 field) (valuesFrom (now (point .entry)) 0 field) ⌝ }
 {
     let base = row * ROW_WORDS + 2;
     let mut f: usize = 0;
@@ -113,9 +114,9 @@ fn ranges_hold(rows: &[u64], row: usize, point: Point, field: usize) -> bool
 }
 
 // Whether a row is for the direction and holds the point's values in the fields before `field`.
-fn active(rows: &[u64], row: usize, direction: Direction, point: Point, field: usize) -> bool
+fn active(rows: &[u64], row: usize, direction: Direction, point: &[u64; 10], field: usize) -> bool
     requires { ⌜ (field ≤ 5) × (row * 22 + 22 ≤ length (now rows)) ⌝ }
-    ensures { λ r. ⌜ r ≡ isActive direction (now (rows .entry)) row field (valuesFrom (point .words) 0 field) ⌝ }
+    ensures { λ r. ⌜ r ≡ isActive direction (now (rows .entry)) row field (valuesFrom (now (point .entry)) 0 field) ⌝ }
 {
     if !policy::direction_of(rows[row * ROW_WORDS]).applies_to(direction) {
         return false;
@@ -126,12 +127,13 @@ fn active(rows: &[u64], row: usize, direction: Direction, point: Point, field: u
 fn selectors_of(point: Point) -> Selectors
     ensures { λ r. ⌜ combination r ≡ valuesFrom (point .words) 0 5 ⌝ }
 {
+    let words = point.words;
     Selectors {
-        local: point_value(point, 0),
-        remote: point_value(point, 1),
-        protocol: point_value(point, 2),
-        local_port: point_value(point, 3),
-        remote_port: point_value(point, 4),
+        local: point_value(&words, 0),
+        remote: point_value(&words, 1),
+        protocol: point_value(&words, 2),
+        local_port: point_value(&words, 3),
+        remote_port: point_value(&words, 4),
     }
 }
 
@@ -175,14 +177,14 @@ fn row_end(
     rows: &[u64],
     row: usize,
     direction: Direction,
-    point: Point,
+    point: &[u64; 10],
     field: usize,
     from: Value,
     best: Value,
 ) -> Value
     requires { ⌜ (field < 5) × (row * 22 + 22 ≤ length (now rows)) ⌝ }
     requires { ⌜ number from ≤ number best ⌝ }
-    ensures { λ r. ⌜ Ends (number from) (number best) (number r) (isActive direction (now (rows .entry)) row field (valuesFrom (point .words) 0 field) ≡ true → AlikeTo (rangeOf (now (rows .entry)) row field) (number from) (number r)) ⌝ }
+    ensures { λ r. ⌜ Ends (number from) (number best) (number r) (isActive direction (now (rows .entry)) row field (valuesFrom (now (point .entry)) 0 field) ≡ true → AlikeTo (rangeOf (now (rows .entry)) row field) (number from) (number r)) ⌝ }
 {
     let at = row * ROW_WORDS + 2 + 4 * field;
     let low = value_at(rows, at);
@@ -209,11 +211,12 @@ fn end_among(
     requires { ⌜ (field < 5) × (number from ≤ number best) ⌝ }
     ensures { λ r. ⌜ Ends (number from) (number best) (number r) (AlikeIn direction (now (rows .entry)) point field (number from) (number r)) ⌝ }
 {
+    let words = point.words;
     let count = rows.len() / ROW_WORDS;
     let mut end = best;
     let mut row: usize = 0;
     while row < count {
-        end = row_end(rows, row, direction, point, field, from, end);
+        end = row_end(rows, row, direction, &words, field, from, end);
         row += 1;
     }
     end
@@ -407,8 +410,8 @@ fn layout_field(
     ensures { λ r. ⌜ LaidOut (task .limit) field (5 - field) (fieldForm (now (first .entry)) (now (second .entry)) task point field) (now (room .exit)) r ⌝ }
 {
     let direction = task.direction;
-    let highest = task.highest;
-    let top = point_value(highest, field);
+    let highest = task.highest.words;
+    let top = point_value(&highest, field);
     let mut kept = Kept {
         last: 0,
         next: 0,

@@ -123,8 +123,8 @@ abbrev Gone : ℕ → Type 0
 Gone t = layout-field-lts.After-next (layout-field-claims t) (layout-field-at t) layout-field.Post layout-field-Inv-loop layout-field-μ-loop
 
 -- The part of the room behind the rows so far.
-room : (t : ℕ) (c : Begun t) → Room (c .before .before .before .before .before .before .args .task .limit) (c .before .before .before .before .before .before .args .field) (c .loop .kept .next * 22) (c .loop .room)
-room t c = let s = c .before .before .before .before .before .before in room-for _ _ _ _ _ (s .pre .1 .0 .0) (c .loop .inv .1 .0) (s .pre .1 .1) (c .loop .inv .0)
+room : (t : ℕ) (c : Begun t) → Room (c .before .before .before .before .before .before .before .args .task .limit) (c .before .before .before .before .before .before .before .args .field) (c .loop .kept .next * 22) (c .loop .room)
+room t c = let s = c .before .before .before .before .before .before .before in room-for _ _ _ _ _ (s .pre .1 .0 .0) (c .loop .inv .1 .0) (s .pre .1 .1) (c .loop .inv .0)
 
 -- The room is as long as before when that part is back.
 back : (t : ℕ) (c : Stretched t)
@@ -137,14 +137,14 @@ back t c =
 
 -- After `place` the loop has come to the value behind the interval.
 placed : (t : ℕ) (c : Placed t)
-    → (let s = c .before .before .before .before .before .before .before .before .before .before .before .before .before .before .before .before .before in
+    → (let s = c .before .before .before .before .before .before .before .before .before .before .before .before .before .before .before .before .before .before in
     Progress (now (s .args .first)) (now (s .args .second)) (s .args .task) (valuesFrom (s .args .point .words) 0 (s .args .field)) (s .args .field)
     (c .place .last .0) (c .place .result) (number (c .before .before .before .before .before .before .before .before .before .before .interval-end .result) + 1))
 placed t c =
     let y = c .before .before .before .before .before .before .before in
     let e = y .before .before .before .interval-end .ensures in
     let l = y .before .before .before .before in
-    let s = l .before .before .before .before .before .before in
+    let s = l .before .before .before .before .before .before .before in
     let r = room t l in
     turn-lent _ _ _ _ _ (s .pre .1 .0 .0) (values-length _ 0 _) _ _ (e .reaches) (e .alike) _ _ _ _ _ _ (s .args .task .limit) _ (l .loop .inv .1 .1 .1) (omega arith)
     (rw (y .layout-stretch .kept .1 .1 .1 .1 .1 .1 .0) (r .enough)) _ (c .before .before .before .laid .given .1) (y .layout-stretch .ensures) (c .place .ensures)
@@ -189,7 +189,7 @@ layout-field-part-layout-stretch-end t c = search needs
 layout-field-layout-stretch-requires : (t : ℕ) → layout-field-lts.Need-layout-stretch-requires (layout-field-claims t) (layout-field-at t) layout-field.Post layout-field-Inv-loop layout-field-μ-loop
 layout-field-layout-stretch-requires t c κs =
     let l = c .before .before .before in
-    let s = l .before .before .before .before .before .before in
+    let s = l .before .before .before .before .before .before .before in
     (omega (arith, s .pre .0, s .pre .1 .0 .0), (s .pre .1 .0, room t l .behind))
 
 layout-field-enum-known-laid : (t : ℕ) → layout-field-lts.Need-enum-known-laid (layout-field-claims t) (layout-field-at t) layout-field.Post layout-field-Inv-loop layout-field-μ-loop
@@ -202,7 +202,7 @@ layout-field-returns : (t : ℕ) → layout-field-lts.Need-returns (layout-field
 layout-field-returns t c =
     let y = c .before .before .before in
     let l = y .before .before .before .before in
-    let s = l .before .before .before .before .before .before in
+    let s = l .before .before .before .before .before .before .before in
     over-behind (now (s .args .first)) (now (s .args .second)) (s .args .task) (valuesFrom (s .args .point .words) 0 (s .args .field)) (s .args .field) (s .pre .1 .0 .0)
     (s .args .task .limit) (number (l .loop .from)) (omega (arith, l .loop .inv .1 .1 .0, ap number (l .before .point-value .ensures)))
     (laid-else _ _ _ _ _ (tagOf the-type) (λ m. refl) _ (y .layout-stretch .ensures) (c .match .keys2)) _
@@ -211,7 +211,7 @@ layout-field-place-requires : (t : ℕ) → layout-field-lts.Need-place-requires
 layout-field-place-requires t c κs =
     let y = c .before .before .before .before .before .before in
     let l = y .before .before .before .before in
-    let s = l .before .before .before .before .before .before in
+    let s = l .before .before .before .before .before .before .before in
     let r = room t l in
     let n = laid-count (s .args .task .limit) _ _ _ _ _ _ (c .before .before .laid .given .1) (y .layout-stretch .ensures) .0 in
     (s .pre .1 .0 .0, (l .loop .inv .1 .1 .1 .ordered, rw (back t y) (omega arith)))
@@ -223,7 +223,7 @@ layout-field-returns-2 : (t : ℕ) → layout-field-lts.Need-returns-2 (layout-f
 layout-field-returns-2 t c =
     let p = c .before .before .before .before in
     let i = p .before .before .before .before .before .before .before .before .before .before in
-    over-so-far _ _ _ _ _ (p .before .before .before .before .before .before .before .before .before .before .before .before .before .before .before .before .before .pre .1 .0 .0) _ _ _ _ (placed t p) (omega (arith, i .interval-end .ensures .within, ap number (i .before .before .point-value .ensures))) (c .if1 .taken) _
+    over-so-far _ _ _ _ _ (p .before .before .before .before .before .before .before .before .before .before .before .before .before .before .before .before .before .before .pre .1 .0 .0) _ _ _ _ (placed t p) (omega (arith, i .interval-end .ensures .within, ap number (i .before .before .point-value .ensures))) (c .if1 .taken) _
 
 layout-field-less-requires : (t : ℕ) → layout-field-lts.Need-less-requires (layout-field-claims t) (layout-field-at t) layout-field.Post layout-field-Inv-loop layout-field-μ-loop
 layout-field-less-requires t c κs = search needs
@@ -232,7 +232,7 @@ layout-field-stamp-requires : (t : ℕ) → layout-field-lts.Need-stamp-requires
 layout-field-stamp-requires t c κs =
     let p = c .before .before .before .before .before .before .before in
     let r = room t (p .before .before .before .before .before .before .before .before .before .before .before) in
-    (p .before .before .before .before .before .before .before .before .before .before .before .before .before .before .before .before .before .pre .1 .0 .0, (placed t p .ordered, omega (arith, c .before .before .before .if1 .left, p .place .kept .0, back t (p .before .before .before .before .before .before .before))))
+    (p .before .before .before .before .before .before .before .before .before .before .before .before .before .before .before .before .before .before .pre .1 .0 .0, (placed t p .ordered, omega (arith, c .before .before .before .if1 .left, p .place .kept .0, back t (p .before .before .before .before .before .before .before))))
 
 layout-field-same-length-3 : (t : ℕ) → layout-field-lts.Need-same-length-3 (layout-field-claims t) (layout-field-at t) layout-field.Post layout-field-Inv-loop layout-field-μ-loop
 layout-field-same-length-3 t c =
@@ -245,7 +245,7 @@ layout-field-returns-3 t c =
     let v = p .before .before .before .before .before .before .before .before .before .before .before .before .point-value in
     let g = ltb-false (number (i .result)) (number (v .result)) (sym (c .before .before .before .before .before .less .ensures) ∙ not-true _ (c .before .before .before .before .if2 .taken)) in
     let e : number (i .result) ≡ number (v .result) = omega (arith, i .ensures .within) in
-    laid-out _ _ _ _ _ (p .before .before .before .before .before .before .before .before .before .before .before .before .before .before .before .before .before .pre .1 .0 .0) _ _ _ _ _ (ap number (v .ensures)) (rw e at (placed t p)) (c .before .before .before .before .before .before .if1 .left) (c .before .before .stamp .ensures)
+    laid-out _ _ _ _ _ (p .before .before .before .before .before .before .before .before .before .before .before .before .before .before .before .before .before .before .pre .1 .0 .0) _ _ _ _ _ (ap number (v .ensures)) (rw e at (placed t p)) (c .before .before .before .before .before .before .if1 .left) (c .before .before .stamp .ensures)
 
 layout-field-next-requires : (t : ℕ) → layout-field-lts.Need-next-requires (layout-field-claims t) (layout-field-at t) layout-field.Post layout-field-Inv-loop layout-field-μ-loop
 layout-field-next-requires t c κs = search needs

@@ -14,19 +14,19 @@ use Rattle.layout.proofs.end_among.Statement.{statement}
 use Rattle.layout.proofs.end_among.Tie as tie
 
 abbrev Inv-loop : tie.InvT-loop
-Inv-loop rows direction point field from count end₀ row₀ end row =
+Inv-loop rows direction field from point count end₀ row₀ end row =
     (row ≤ count)
-    × Ends (number from) (number end₀) (number end) (AlikeAmong direction rows row field (valuesFrom (point .words) 0 field) (number from) (number end))
+    × Ends (number from) (number end₀) (number end) (AlikeAmong direction rows row field (valuesFrom point 0 field) (number from) (number end))
 
 abbrev μ-loop : tie.MeasureT-loop
-μ-loop rows direction point field from count end₀ row₀ end row = count - row
+μ-loop rows direction field from point count end₀ row₀ end row = count - row
 
 loop-holds : tie.Need-loop-holds Inv-loop μ-loop
-loop-holds c = let a = c .before .args in
-    (search needs, ends-start (a .direction) (now (a .rows)) (a .field) (valuesFrom (a .point .words) 0 (a .field)) (number (a .from)) (number (a .best)) (c .before .pre .1))
+loop-holds c = let a = c .before .before .args in
+    (search needs, ends-start (a .direction) (now (a .rows)) (a .field) (valuesFrom (a .point .words) 0 (a .field)) (number (a .from)) (number (a .best)) (c .before .before .pre .1))
 
 row-end-requires : tie.Need-row-end-requires Inv-loop μ-loop
-row-end-requires c κs = ((search needs, search needs), c .before .loop .inv .1 .reaches)
+row-end-requires c κs = ((search needs, search needs), c .before .before .loop .inv .1 .reaches)
 
 add-row : tie.Need-add-row Inv-loop μ-loop
 add-row c = search needs
@@ -35,10 +35,10 @@ loop-less : tie.Need-loop-less Inv-loop μ-loop
 loop-less c = search needs
 
 loop-again : tie.Need-loop-again Inv-loop μ-loop
-loop-again c = (search needs, ends-more _ _ _ _ _ _ _ _ _ (c .before .before .loop .inv .1) (c .row-end .ensures))
+loop-again c = (search needs, ends-more _ _ _ _ _ _ _ _ _ (c .before .before .before .loop .inv .1) (c .row-end .ensures))
 
 returns : tie.Need-returns Inv-loop μ-loop
-returns c = let e : c .before .loop .row ≡ length (now (c .before .before .before .args .rows)) / 22 = omega arith in
+returns c = let e : c .before .loop .row ≡ length (now (c .before .before .before .before .args .rows)) / 22 = omega arith in
     rw e at (c .before .loop .inv .1)
 
 pub end-among-spec : {M : Type 1} → statement M
