@@ -2,14 +2,14 @@
 use Prim.Native.Nat.{ℕ, zero, suc, _+_, _-_, _*_, _/_, _≤_, _<_}
 use native.Mathlib.Omega.{arith}
 use mathlib.Core.Path.{_≡_, refl, sym, _∙_, ap}
-use mathlib.Core.Bool.{Bool, true, false, not, _&&_, false≢true}
+use mathlib.Core.Bool.{Bool, true, false, _&&_, false≢true}
 use mathlib.Core.Logic.{_↔_}
 use mathlib.Core.List.{List, _∷_, _++_}
-use lib.Dec.{ltb, eqb}
+use lib.Dec.{eqb}
 use lib.ListN.{length, getD}
 use borrow.Author.Tests.{eq-eqb}
 use Rattle.selectors.specs.Range.{Range, contains, sameRange}
-use Rattle.selectors.specs.RangeLaws.{contains-below, contains-not-below, sameRange-true}
+use Rattle.selectors.specs.RangeLaws.{sameRange-true}
 use Rattle.selectors.specs.Value.{number}
 use Rattle.selectors.specs.declared.Direction.{Direction}
 use Rattle.selectors.specs.declared.Value.{Value}
@@ -116,14 +116,6 @@ pub rows-length : (f n : ℕ) (ws : List ℕ) (i c : ℕ) → length (partRows f
 unfolding partRows
 rows-length f n ws i zero = refl
 rows-length f n ws i (suc c) = ap suc (rows-length f n ws (i + 1) c)
-
--- A range of four words by its ends as values: below the low one it holds nothing, and from there on what is not above the high one.
-module _ (ws : List ℕ) (at v : ℕ) (low : Value) (e : low ≡ valueAt ws at) where
-  pub range-below : v < number low → contains (rangeAt ws at) v ≡ false
-  range-below h = contains-below (rangeAt ws at) v (rw e at h)
-
-  pub range-not-below : (high : Value) → high ≡ valueAt ws (at + 2) → number low ≤ v → not (ltb (number high) v) ≡ contains (rangeAt ws at) v
-  range-not-below high e′ h = rw e′ (contains-not-below (rangeAt ws at) v (rw e at h))
 
 -- Two ranges of four words by their ends as values: the same if the low ends are and the high ends are.
 module _ (ws : List ℕ) (a b : ℕ) (low low′ : Value) (e : low ≡ valueAt ws a) (e′ : low′ ≡ valueAt ws b) where

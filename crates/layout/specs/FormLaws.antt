@@ -85,7 +85,7 @@ form-field d first second before S Ss =
     (λ v h. normal-form-ext parting-≟ agreed Ss _ _ (λ vs ok. ap (partingAt d first second) (sym (append-assoc before (v ∷ []) vs)))))
 
 -- Ranges in two parts, and what holds in two parts.
-ranges-split : (ws : List ℕ) (i f n m : ℕ) → rangesFrom ws i f (n + m) ≡ rangesFrom ws i f n ++ rangesFrom ws i (f + n) m
+pub ranges-split : (ws : List ℕ) (i f n m : ℕ) → rangesFrom ws i f (n + m) ≡ rangesFrom ws i f n ++ rangesFrom ws i (f + n) m
 unfolding rangesFrom
 ranges-split ws i f zero m = let e : f + 0 ≡ f = omega arith in let z : 0 + m ≡ m = omega arith in rw (e, z)
 ranges-split ws i f (suc n) m =
@@ -93,7 +93,7 @@ ranges-split ws i f (suc n) m =
     let z : suc n + m ≡ suc (n + m) = omega arith in
     ap (rangesFrom ws i f) z ∙ ap (rangeOf ws i f ∷_) (ranges-split ws i (f + 1) n m ∙ ap (λ (g : ℕ). rangesFrom ws i (f + 1) n ++ rangesFrom ws i g m) e)
 
-holds-append : (rs qs : List Range) (us vs : List ℕ) → length rs ≡ length us → holds (rs ++ qs) (us ++ vs) ≡ (holds rs us && holds qs vs)
+pub holds-append : (rs qs : List Range) (us vs : List ℕ) → length rs ≡ length us → holds (rs ++ qs) (us ++ vs) ≡ (holds rs us && holds qs vs)
 unfolding holds
 holds-append [] qs [] vs e = refl
 holds-append [] qs (u ∷ us) vs e = absurd (omega arith)
@@ -105,7 +105,7 @@ unfolding valuesFrom
 values-length ps f zero = refl
 values-length ps f (suc n) = ap suc (values-length ps (f + 1) n)
 
-ranges-length : (ws : List ℕ) (i f n : ℕ) → length (rangesFrom ws i f n) ≡ n
+pub ranges-length : (ws : List ℕ) (i f n : ℕ) → length (rangesFrom ws i f n) ≡ n
 unfolding rangesFrom
 ranges-length ws i f zero = refl
 ranges-length ws i f (suc n) = ap suc (ranges-length ws i (f + 1) n)

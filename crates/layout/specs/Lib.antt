@@ -6,7 +6,9 @@ pub mod Laid
 pub mod LaidLaws
 pub mod Steps
 pub mod StepsLaws
+pub mod Lists
 pub mod FormLaws
+pub mod ListsLaws
 pub mod Turn
 pub mod Progress
 pub mod NormalRows

@@ -52,40 +52,55 @@ module _ (r : Range) (from best last : ℕ) (h : from ≤ best) where
         contains-in r u (omega arith) (omega arith) ∙ sym (contains-in r from p q);
   }
 
-module _ (from best last : ℕ) where
-  -- A row that is not active treats all values alike.
-  pub ends-passed : {P Q : Type 0} → from ≤ best → (P → ⊥) → Ends from best best (P → Q)
+-- A range by its ends as values.
+pub ends-range : (from best last : ℕ) (ws : List ℕ) (at : ℕ) (low high : Value) → low ≡ valueAt ws at → high ≡ valueAt ws (at + 2)
+    → Ends from best last (AlikeTo (fromTo low high) from last) → Ends from best last (AlikeTo (rangeAt ws at) from last)
+ends-range from best last ws at low high e g t = record { reaches = t .reaches; within = t .within; alike = rw (e, g) at (t .alike) }
+
+-- A range that counts only under a condition: where it ends nothing earlier, where the condition does not hold, and else.
+module _ (from best last : ℕ) {P : Type 0} where
+  pub ends-whole : (r : Range) → Ends from best last (AlikeTo r from last) → best ≤ last → Ends from best best (P → AlikeTo r from best)
+  ends-whole r t h =
+      let e : last ≡ best = omega (arith, t .within) in
+      record { reaches = omega (arith, t .reaches); within = omega arith; alike = λ p. rw e at (t .alike) }
+
+  pub ends-passed : {Q : Type 0} → from ≤ best → (P → ⊥) → Ends from best best (P → Q)
   ends-passed h n = record { reaches = h; within = omega arith; alike = λ p. absurd (n p) }
 
-  -- A row's range by its ends as values.
-  pub ends-row : {P : Type 0} (ws : List ℕ) (at : ℕ) (low high : Value) → low ≡ valueAt ws at → high ≡ valueAt ws (at + 2)
-      → Ends from best last (AlikeTo (fromTo low high) from last) → Ends from best last (P → AlikeTo (rangeAt ws at) from last)
-  ends-row ws at low high e g t = record { reaches = t .reaches; within = t .within; alike = λ p. rw (e, g) at (t .alike) }
+  pub ends-under : {Q : Type 0} → Ends from best last Q → Ends from best last (P → Q)
+  ends-under t = record { reaches = t .reaches; within = t .within; alike = λ p. t .alike }
+
+-- A value up to the last one, as well.
+pub alike-less : (r : Range) (from last last′ : ℕ) → last′ ≤ last → AlikeTo r from last → AlikeTo r from last′
+unfolding AlikeTo
+alike-less r from last last′ h a u p q = a u p (omega arith)
+
+-- What is so to each of the first n of some things, and to one more.
+module _ (A : ℕ → ℕ → Type 0) (less : (i last last′ : ℕ) → last′ ≤ last → A i last → A i last′) (from : ℕ) where
+  pub each-more : (n best last last′ : ℕ) → Ends from best last ((i : ℕ) → i < n → A i last) → Ends from last last′ (A n last′)
+      → Ends from best last′ ((i : ℕ) → i < n + 1 → A i last′)
+  each-more n best last last′ s t = record {
+    reaches = t .reaches;
+    within = omega (arith, s .within, t .within);
+    alike = λ i g. by i g (decLt i n);
+  }
+    where
+      by : (i : ℕ) → i < n + 1 → Dec (i < n) → A i last′
+      by i g (yes h) = less i last last′ (t .within) (s .alike i h)
+      by i g (no h) = let e : n ≡ i = omega arith in rw e at (t .alike)
 
 module _ (d : Direction) (ws : List ℕ) (f : ℕ) (before : List ℕ) (from : ℕ) where
-  -- A value up to the last one, as well.
   among-less : (n last last′ : ℕ) → last′ ≤ last → AlikeAmong d ws n f before from last → AlikeAmong d ws n f before from last′
-  unfolding AlikeAmong AlikeTo
-  among-less n last last′ h a i g t u p q = a i g t u p (omega arith)
-
-  pub ends-start : (best : ℕ) → from ≤ best → Ends from best best (AlikeAmong d ws 0 f before from best)
   unfolding AlikeAmong
-  ends-start best h = record { reaches = h; within = omega arith; alike = λ i g. absurd (omega arith) }
+  among-less n last last′ h a i g t = alike-less _ from last last′ h (a i g t)
 
   -- One row more.
   pub ends-more : (n best last last′ : ℕ) → Ends from best last (AlikeAmong d ws n f before from last)
       → Ends from last last′ (active d ws n f before ≡ true → AlikeTo (rangeOf ws n f) from last′)
       → Ends from best last′ (AlikeAmong d ws (n + 1) f before from last′)
   unfolding AlikeAmong
-  ends-more n best last last′ s t = record {
-    reaches = t .reaches;
-    within = omega (arith, s .within, t .within);
-    alike = λ i g. by i g (decLt i n);
-  }
-    where
-      by : (i : ℕ) → i < n + 1 → Dec (i < n) → active d ws i f before ≡ true → AlikeTo (rangeOf ws i f) from last′
-      by i g (yes h) = among-less n last last′ (t .within) (s .alike) i h
-      by i g (no h) = let e : n ≡ i = omega arith in rw e at (t .alike)
+  ends-more n best last last′ s t =
+      each-more (λ i l. active d ws i f before ≡ true → AlikeTo (rangeOf ws i f) from l) (λ i l l′ h a p. alike-less _ from l l′ h (a p)) from n best last last′ s t
 
 -- Two policies, one after the other.
 pub ends-both : (d : Direction) (ws ws′ : List ℕ) (n n′ f : ℕ) (before : List ℕ) (from best last last′ : ℕ)

@@ -1,6 +1,7 @@
 // Lays policies out into their normal form, and two policies into their difference (document 01, 'One normal form').
 ghost use mathlib.Core.Path.{_≡_};
 ghost use mathlib.Core.Bool.{true};
+ghost use mathlib.Core.List.{[]};
 ghost use mathlib.Core.Logic.{_↔_};
 ghost use Prim.Native.Nat.{_+_, _-_, _*_, _≤_, _<_, min};
 ghost use lib.ListN.{length, set};
@@ -12,10 +13,12 @@ ghost use Rattle.policy.specs.Policy.{orderedSearch};
 ghost use Rattle.policy.specs.Words.{valueAt, rangeAt, policyRows, actionWord};
 ghost use Rattle.layout.specs.Decode.{valuesFrom, rangeOf, rangesFrom, active as isActive, partRow, partRows};
 ghost use Rattle.layout.specs.Laid.{sizesOf, Outcome};
+ghost use Rattle.layout.specs.Lists.{Lists, Within, Narrowed, AlikeListed, BranchAt, Grown};
 ghost use Rattle.layout.specs.Parting.{differenceForm};
 ghost use Rattle.layout.specs.Steps.{Ends, AlikeTo, AlikeIn, Put, Stamped, Placed, LaidOut, fieldForm, valueForm, wordsFor};
 use policy::Found;
 use policy::ROW_WORDS;
+use selectors::AddressRange;
 use selectors::Direction;
 use selectors::Selectors;
 use selectors::Value;
@@ -45,6 +48,19 @@ struct Task {
     limit: usize,
 }
 
+// Some of the first MOST rows of a policy, by their places in it.
+struct Picked {
+    rows: [u16; 256],
+    count: usize,
+}
+
+// A point, and the rows of both policies that hold its values so far.
+struct Branch {
+    point: Point,
+    first: Picked,
+    second: Picked,
+}
+
 // The rows from `last` to `next` are those of the last interval, which begins at the value `low`; those before it are done.
 struct Kept {
     last: usize,
@@ -54,14 +70,18 @@ struct Kept {
 
 const ZERO: Value = Value { upper: 0, lower: 0 };
 
-fn point_value(point: Point, field: usize) -> Value
+// The most rows that a list has. Rows of a policy beyond them are asked one by one.
+const MOST: usize = 256;
+
+// A point's value of a field.
+fn point_value(point: &[u64; 10], field: usize) -> Value
     requires { ⌜ field < 5 ⌝ }
-    ensures { λ r. ⌜ r ≡ valueAt (point .words) (2 * field) ⌝ }
+    ensures { λ r. ⌜ r ≡ valueAt (now (point .entry)) (2 * field) ⌝ }
 {
     let at = 2 * field;
     Value {
-        upper: point.words[at],
-        lower: point.words[at + 1],
+        upper: point[at],
+        lower: point[at + 1],
     }
 }
 
@@ -90,16 +110,15 @@ fn range_holds(rows: &[u64], at: usize, value: Value) -> bool
     requires { ⌜ at + 4 ≤ length (now rows) ⌝ }
     ensures { λ r. ⌜ r ≡ contains (rangeAt (now (rows .entry)) at) (number value) ⌝ }
 {
-    if value.less(value_at(rows, at)) {
-        return false;
-    }
-    !value_at(rows, at + 2).less(value)
+    let low = value_at(rows, at);
+    let high = value_at(rows, at + 2);
+    AddressRange { low, high }.holds(value)
 }
 
 // Whether a row's ranges hold the point's values in the fields before `field`.
-fn ranges_hold(rows: &[u64], row: usize, point: Point, field: usize) -> bool
+fn ranges_hold(rows: &[u64], row: usize, point: &[u64; 10], field: usize) -> bool
     requires { ⌜ (field ≤ 5) × (row * 22 + 22 ≤ length (now rows)) ⌝ }
-    ensures { λ r. ⌜ r ≡ holds (rangesFrom (now (rows .entry)) row 0 field) (valuesFrom (point .words) 0 field) ⌝ }
+    ensures { λ r. ⌜ r ≡ holds (rangesFrom (now (rows .entry)) row 0 field) (valuesFrom (now (point .entry)) 0 field) ⌝ }
 {
     let base = row * ROW_WORDS + 2;
     let mut f: usize = 0;
@@ -113,9 +132,9 @@ fn ranges_hold(rows: &[u64], row: usize, point: Point, field: usize) -> bool
 }
 
 // Whether a row is for the direction and holds the point's values in the fields before `field`.
-fn active(rows: &[u64], row: usize, direction: Direction, point: Point, field: usize) -> bool
+fn active(rows: &[u64], row: usize, direction: Direction, point: &[u64; 10], field: usize) -> bool
     requires { ⌜ (field ≤ 5) × (row * 22 + 22 ≤ length (now rows)) ⌝ }
-    ensures { λ r. ⌜ r ≡ isActive direction (now (rows .entry)) row field (valuesFrom (point .words) 0 field) ⌝ }
+    ensures { λ r. ⌜ r ≡ isActive direction (now (rows .entry)) row field (valuesFrom (now (point .entry)) 0 field) ⌝ }
 {
     if !policy::direction_of(rows[row * ROW_WORDS]).applies_to(direction) {
         return false;
@@ -126,19 +145,83 @@ fn active(rows: &[u64], row: usize, direction: Direction, point: Point, field: u
 fn selectors_of(point: Point) -> Selectors
     ensures { λ r. ⌜ combination r ≡ valuesFrom (point .words) 0 5 ⌝ }
 {
+    let words = point.words;
     Selectors {
-        local: point_value(point, 0),
-        remote: point_value(point, 1),
-        protocol: point_value(point, 2),
-        local_port: point_value(point, 3),
-        remote_port: point_value(point, 4),
+        local: point_value(&words, 0),
+        remote: point_value(&words, 1),
+        protocol: point_value(&words, 2),
+        local_port: point_value(&words, 3),
+        remote_port: point_value(&words, 4),
     }
 }
 
-// The word of the action that the ordered search finds at the point.
-fn action_at(rows: &[u64], direction: Direction, point: Point) -> u64
+fn wide(row: u16) -> usize
+    ensures { λ r. ⌜ r ≡ row ⌝ }
+{
+    row as usize
+}
+
+// How many of so many rows are listed.
+fn listable(total: usize) -> usize
+    ensures { λ r. ⌜ r ≡ min total 256 ⌝ }
+{
+    if total < MOST {
+        return total;
+    }
+    MOST
+}
+
+// The rows for the direction.
+fn rows_for(rows: &[u64], direction: Direction) -> Picked
+    ensures { λ r. ⌜ Lists direction (now (rows .entry)) 0 [] r ⌝ }
+{
+    let nowhere = [0u64; 10];
+    let total = listable(rows.len() / ROW_WORDS);
+    let mut list = [0u16; 256];
+    let mut count: usize = 0;
+    let mut row: usize = 0;
+    while row < total {
+        list[count] = row as u16;
+        if active(rows, row, direction, &nowhere, 0) {
+            count += 1;
+        }
+        row += 1;
+    }
+    Picked { rows: list, count }
+}
+
+// Those of the picked rows whose ranges of the field hold the value.
+fn narrowed(rows: &[u64], picked: Picked, field: usize, value: Value) -> Picked
+    requires { ⌜ (field < 5) × Within (now rows) picked ⌝ }
+    ensures { λ r. ⌜ Narrowed (now (rows .entry)) field (number value) picked r ⌝ }
+{
+    let old = picked.rows;
+    let total = picked.count;
+    let mut list = [0u16; 256];
+    let mut count: usize = 0;
+    let mut i: usize = 0;
+    while i < total {
+        let row = old[i];
+        list[count] = row;
+        if range_holds(rows, wide(row) * ROW_WORDS + 2 + 4 * field, value) {
+            count += 1;
+        }
+        i += 1;
+    }
+    Picked { rows: list, count }
+}
+
+// The word of the action that the ordered search finds at the point, whose values the picked rows hold.
+fn action_at(rows: &[u64], direction: Direction, point: Point, picked: Picked) -> u64
+    requires { ⌜ Lists direction (now rows) 5 (valuesFrom (point .words) 0 5) picked ⌝ }
     ensures { λ r. ⌜ r ≡ actionWord (orderedSearch direction (policyRows (now (rows .entry))) (valuesFrom (point .words) 0 5)) ⌝ }
 {
+    if 0 < picked.count {
+        return rows[wide(picked.rows[0]) * ROW_WORDS + 1];
+    }
+    if rows.len() / ROW_WORDS <= MOST {
+        return 0;
+    }
     let found = policy::first_match(rows, direction, selectors_of(point));
     let Found::Row(row) = found else {
         return 0;
@@ -170,46 +253,78 @@ fn alike_to(low: Value, high: Value, from: Value, best: Value) -> Value
     smaller(high, best)
 }
 
-// The same for the range of a field in a row, if the row is active.
-fn row_end(
-    rows: &[u64],
-    row: usize,
-    direction: Direction,
-    point: Point,
-    field: usize,
-    from: Value,
-    best: Value,
-) -> Value
+// The same for the range of a field in a row.
+fn range_end(rows: &[u64], row: usize, field: usize, from: Value, best: Value) -> Value
     requires { ⌜ (field < 5) × (row * 22 + 22 ≤ length (now rows)) ⌝ }
     requires { ⌜ number from ≤ number best ⌝ }
-    ensures { λ r. ⌜ Ends (number from) (number best) (number r) (isActive direction (now (rows .entry)) row field (valuesFrom (point .words) 0 field) ≡ true → AlikeTo (rangeOf (now (rows .entry)) row field) (number from) (number r)) ⌝ }
+    ensures { λ r. ⌜ Ends (number from) (number best) (number r) (AlikeTo (rangeOf (now (rows .entry)) row field) (number from) (number r)) ⌝ }
 {
-    if !active(rows, row, direction, point, field) {
-        return best;
-    }
     let at = row * ROW_WORDS + 2 + 4 * field;
     let low = value_at(rows, at);
     let high = value_at(rows, at + 2);
     alike_to(low, high, from, best)
 }
 
-// The same for all rows of a policy.
+// The same if the row is active, which is asked last, since most ranges end nothing earlier.
+fn row_end(
+    rows: &[u64],
+    row: usize,
+    direction: Direction,
+    point: &[u64; 10],
+    field: usize,
+    from: Value,
+    best: Value,
+) -> Value
+    requires { ⌜ (field < 5) × (row * 22 + 22 ≤ length (now rows)) ⌝ }
+    requires { ⌜ number from ≤ number best ⌝ }
+    ensures { λ r. ⌜ Ends (number from) (number best) (number r) (isActive direction (now (rows .entry)) row field (valuesFrom (now (point .entry)) 0 field) ≡ true → AlikeTo (rangeOf (now (rows .entry)) row field) (number from) (number r)) ⌝ }
+{
+    let end = range_end(rows, row, field, from, best);
+    if !end.less(best) {
+        return best;
+    }
+    if !active(rows, row, direction, point, field) {
+        return best;
+    }
+    end
+}
+
+// The same for the picked rows.
+fn end_listed(rows: &[u64], picked: Picked, field: usize, from: Value, best: Value) -> Value
+    requires { ⌜ (field < 5) × (Within (now rows) picked × (number from ≤ number best)) ⌝ }
+    ensures { λ r. ⌜ Ends (number from) (number best) (number r) (AlikeListed (now (rows .entry)) (picked .rows) (picked .count) field (number from) (number r)) ⌝ }
+{
+    let list = picked.rows;
+    let count = picked.count;
+    let mut end = best;
+    let mut i: usize = 0;
+    while i < count {
+        end = range_end(rows, wide(list[i]), field, from, end);
+        i += 1;
+    }
+    end
+}
+
+// The same for all rows of a policy that are active.
 fn end_among(
     rows: &[u64],
     direction: Direction,
     point: Point,
+    picked: Picked,
     field: usize,
     from: Value,
     best: Value,
 ) -> Value
     requires { ⌜ (field < 5) × (number from ≤ number best) ⌝ }
+    requires { ⌜ Lists direction (now rows) field (valuesFrom (point .words) 0 field) picked ⌝ }
     ensures { λ r. ⌜ Ends (number from) (number best) (number r) (AlikeIn direction (now (rows .entry)) point field (number from) (number r)) ⌝ }
 {
+    let words = point.words;
     let count = rows.len() / ROW_WORDS;
-    let mut end = best;
-    let mut row: usize = 0;
+    let mut end = end_listed(rows, picked, field, from, best);
+    let mut row = listable(count);
     while row < count {
-        end = row_end(rows, row, direction, point, field, from, end);
+        end = row_end(rows, row, direction, &words, field, from, end);
         row += 1;
     }
     end
@@ -331,13 +446,14 @@ fn place(room: &mut [u64], kept: Kept, count: usize, field: usize, from: Value) 
 }
 
 // Behind the last field stands the leaf, if the two policies part there.
-fn leaf(first: &[u64], second: &[u64], task: Task, point: Point, room: &mut [u64]) -> Laid
-    requires { ⌜ task .limit * 22 ≤ length (now room) ⌝ }
-    ensures { λ r. ⌜ LaidOut (task .limit) 5 0 (fieldForm (now (first .entry)) (now (second .entry)) task point 5) (now (room .exit)) r ⌝ }
+fn leaf(first: &[u64], second: &[u64], task: Task, branch: Branch, room: &mut [u64]) -> Laid
+    requires { ⌜ (task .limit * 22 ≤ length (now room)) × BranchAt (task .direction) (now first) (now second) 5 branch ⌝ }
+    ensures { λ r. ⌜ LaidOut (task .limit) 5 0 (fieldForm (now (first .entry)) (now (second .entry)) task (branch .point) 5) (now (room .exit)) r ⌝ }
 {
     let direction = task.direction;
-    let action = action_at(first, direction, point);
-    let other = action_at(second, direction, point);
+    let point = branch.point;
+    let action = action_at(first, direction, point, branch.first);
+    let other = action_at(second, direction, point, branch.second);
     if action == other {
         return Laid::Rows(0);
     }
@@ -354,16 +470,33 @@ fn interval_end(
     first: &[u64],
     second: &[u64],
     direction: Direction,
-    point: Point,
+    branch: Branch,
     field: usize,
     from: Value,
     top: Value,
 ) -> Value
     requires { ⌜ (field < 5) × (number from ≤ number top) ⌝ }
-    ensures { λ r. ⌜ Ends (number from) (number top) (number r) (AlikeIn direction (now (first .entry)) point field (number from) (number r) × AlikeIn direction (now (second .entry)) point field (number from) (number r)) ⌝ }
+    requires { ⌜ BranchAt direction (now first) (now second) field branch ⌝ }
+    ensures { λ r. ⌜ Ends (number from) (number top) (number r) (AlikeIn direction (now (first .entry)) (branch .point) field (number from) (number r) × AlikeIn direction (now (second .entry)) (branch .point) field (number from) (number r)) ⌝ }
 {
-    let best = end_among(first, direction, point, field, from, top);
-    end_among(second, direction, point, field, from, best)
+    let point = branch.point;
+    let best = end_among(first, direction, point, branch.first, field, from, top);
+    end_among(second, direction, point, branch.second, field, from, best)
+}
+
+// The branch at a value of the field.
+fn branch_at(first: &[u64], second: &[u64], branch: Branch, field: usize, value: Value) -> Branch
+    requires { ⌜ (field < 5) × (Within (now first) (branch .first) × Within (now second) (branch .second)) ⌝ }
+    ensures { λ r. ⌜ Grown (now (first .entry)) (now (second .entry)) field value branch r ⌝ }
+{
+    let point = with_value(branch.point, field, value);
+    let of_first = narrowed(first, branch.first, field, value);
+    let of_second = narrowed(second, branch.second, field, value);
+    Branch {
+        point,
+        first: of_first,
+        second: of_second,
+    }
 }
 
 // Lays out what follows the field at its value `from`: the next field, or the leaf where none is left.
@@ -371,16 +504,16 @@ fn layout_stretch(
     first: &[u64],
     second: &[u64],
     task: Task,
-    point: Point,
+    branch: Branch,
     field: usize,
     from: Value,
     room: &mut [u64],
 ) -> Laid
-    requires { ⌜ (field < 5) × (length (point .words) ≡ 10) ⌝ }
+    requires { ⌜ (field < 5) × BranchAt (task .direction) (now first) (now second) field branch ⌝ }
     requires { ⌜ wordsFor (task .limit) (5 - (field + 1)) ≤ length (now room) ⌝ }
-    ensures { λ r. ⌜ LaidOut (task .limit) (field + 1) (5 - (field + 1)) (valueForm (now (first .entry)) (now (second .entry)) task point field (number from)) (now (room .exit)) r ⌝ }
+    ensures { λ r. ⌜ LaidOut (task .limit) (field + 1) (5 - (field + 1)) (valueForm (now (first .entry)) (now (second .entry)) task (branch .point) field (number from)) (now (room .exit)) r ⌝ }
 {
-    let here = with_value(point, field, from);
+    let here = branch_at(first, second, branch, field, from);
     let inner = field + 1;
     if inner == FIELDS {
         return leaf(first, second, task, here, room);
@@ -388,23 +521,23 @@ fn layout_stretch(
     layout_field(first, second, task, here, inner, room)
 }
 
-// Lays out the field and those after it, behind the point's values in the fields before it: from interval to interval, each of which
+// Lays out the field and those after it, behind the values of the branch in the fields before it: from interval to interval, each of which
 // is laid out into the rest of the room.
 fn layout_field(
     first: &[u64],
     second: &[u64],
     task: Task,
-    point: Point,
+    branch: Branch,
     field: usize,
     room: &mut [u64],
 ) -> Laid
-    requires { ⌜ (field < 5) × (length (point .words) ≡ 10) ⌝ }
+    requires { ⌜ (field < 5) × BranchAt (task .direction) (now first) (now second) field branch ⌝ }
     requires { ⌜ wordsFor (task .limit) (5 - field) ≤ length (now room) ⌝ }
-    ensures { λ r. ⌜ LaidOut (task .limit) field (5 - field) (fieldForm (now (first .entry)) (now (second .entry)) task point field) (now (room .exit)) r ⌝ }
+    ensures { λ r. ⌜ LaidOut (task .limit) field (5 - field) (fieldForm (now (first .entry)) (now (second .entry)) task (branch .point) field) (now (room .exit)) r ⌝ }
 {
     let direction = task.direction;
-    let highest = task.highest;
-    let top = point_value(highest, field);
+    let highest = task.highest.words;
+    let top = point_value(&highest, field);
     let mut kept = Kept {
         last: 0,
         next: 0,
@@ -412,9 +545,9 @@ fn layout_field(
     };
     let mut from = ZERO;
     loop {
-        let end = interval_end(first, second, direction, point, field, from, top);
+        let end = interval_end(first, second, direction, branch, field, from, top);
         let base = kept.next * ROW_WORDS;
-        let laid = layout_stretch(first, second, task, point, field, from, &mut room[base..]);
+        let laid = layout_stretch(first, second, task, branch, field, from, &mut room[base..]);
         let Laid::Rows(count) = laid else {
             return Laid::Over;
         };
@@ -447,11 +580,17 @@ pub fn layout(
     if room.len() / ROOM_WORDS < limit {
         return Laid::NoRoom;
     }
-    let point = Point { words: [0; 10] };
+    let of_first = rows_for(first, direction);
+    let of_second = rows_for(second, direction);
+    let branch = Branch {
+        point: Point { words: [0; 10] },
+        first: of_first,
+        second: of_second,
+    };
     let task = Task {
         direction,
         highest,
         limit,
     };
-    layout_field(first, second, task, point, 0, room)
+    layout_field(first, second, task, branch, 0, room)
 }

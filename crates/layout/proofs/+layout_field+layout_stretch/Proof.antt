@@ -4,7 +4,7 @@
 use Prim.Native.Nat.{ℕ, _<_, _≤_, _-_, _*_, _+_, _^_}
 use native.Mathlib.Omega.{arith}
 use mathlib.Core.Path.{_≡_, refl, sym, _∙_, ap}
-use lib.ListN.{length-set, length}
+use lib.ListN.{length}
 use denote.Enum.Declared.{tagOf}
 use denote.Ref.{now}
 use borrow.Author.Tests.{ltb-true, ltb-false, not-true, not-false}
@@ -19,6 +19,8 @@ use Rattle.selectors.proofs.Value.next.Reads as next-reads
 use Rattle.layout.specs.FormLaws.{values-length}
 use Rattle.layout.specs.StepsLaws.{words-next}
 use Rattle.layout.specs.Decode.{valuesFrom}
+use Rattle.layout.specs.Lists.{BranchAt}
+use Rattle.layout.specs.ListsLaws.{lists-within, branch-next}
 use Rattle.layout.specs.Progress.{Progress, progress-start, over-behind, over-so-far, laid-out, laid-count, laid-last, laid-field, Room, room-for, laid-else, turn-lent, one-more}
 use Rattle.layout.proofs.Laid.{the-type}
 use Rattle.layout.proofs.+layout_field+layout_stretch.{statement}
@@ -29,12 +31,12 @@ use Rattle.layout.proofs.+layout_field+layout_stretch.Lts-layout_field 
 use Rattle.layout.proofs.layout_stretch.Reads as layout-stretch
 use Rattle.layout.proofs.layout_stretch.Kinds as layout-stretch-kinds
 use Rattle.layout.proofs.+layout_field+layout_stretch.Lts-layout_stretch as layout-stretch-lts
+use Rattle.layout.proofs.branch_at.Reads as branch-at-reads
 use Rattle.layout.proofs.interval_end.Reads as interval-end-reads
 use Rattle.layout.proofs.leaf.Reads as leaf-reads
 use Rattle.layout.proofs.place.Reads as place-reads
 use Rattle.layout.proofs.point_value.Reads as point-value-reads
 use Rattle.layout.proofs.stamp.Reads as stamp-reads
-use Rattle.layout.proofs.with_value.Reads as with-value-reads
 
 abbrev μ-layout-field : Measures 3 layout-field-kinds.ps ℕ
 μ-layout-field κs a = 11 - 2 * a .1 .1 .1 .1 .0
@@ -91,8 +93,8 @@ layout-field-claims t = (
 
 abbrev layout-stretch-claims : ℕ → layout-stretch-lts.Claims
 layout-stretch-claims t = (
-  with-value-reads.Asked,
-  with-value-reads.Learnt,
+  branch-at-reads.Asked,
+  branch-at-reads.Learnt,
   leaf-reads.Asked,
   leaf-reads.Learnt,
   layout-field-below t,
@@ -100,13 +102,13 @@ layout-stretch-claims t = (
 )
 
 abbrev layout-field-Inv-loop : layout-field-lts.InvT-loop
-layout-field-Inv-loop first second task point field room₀ direction top kept₀ from₀ room kept from =
+layout-field-Inv-loop first second task branch field room₀ direction top kept₀ from₀ room kept from =
     (length room ≡ length room₀)
     × ((kept .next ≤ task .limit)
-    × ((number from ≤ number top) × Progress first second task (valuesFrom (point .words) 0 field) field room kept (number from)))
+    × ((number from ≤ number top) × Progress first second task (valuesFrom (branch .point .words) 0 field) field room kept (number from)))
 
 abbrev layout-field-μ-loop : layout-field-lts.MeasureT-loop
-layout-field-μ-loop first second task point field room₀ direction top kept₀ from₀ room kept from =
+layout-field-μ-loop first second task branch field room₀ direction top kept₀ from₀ room kept from =
     number top - number from
 
 -- The places of a turn: where it begins, and after the calls.
@@ -123,8 +125,8 @@ abbrev Gone : ℕ → Type 0
 Gone t = layout-field-lts.After-next (layout-field-claims t) (layout-field-at t) layout-field.Post layout-field-Inv-loop layout-field-μ-loop
 
 -- The part of the room behind the rows so far.
-room : (t : ℕ) (c : Begun t) → Room (c .before .before .before .before .before .before .args .task .limit) (c .before .before .before .before .before .before .args .field) (c .loop .kept .next * 22) (c .loop .room)
-room t c = let s = c .before .before .before .before .before .before in room-for _ _ _ _ _ (s .pre .1 .0 .0) (c .loop .inv .1 .0) (s .pre .1 .1) (c .loop .inv .0)
+room : (t : ℕ) (c : Begun t) → Room (c .before .before .before .before .before .before .before .args .task .limit) (c .before .before .before .before .before .before .before .args .field) (c .loop .kept .next * 22) (c .loop .room)
+room t c = let s = c .before .before .before .before .before .before .before in room-for _ _ _ _ _ (s .pre .1 .0 .0) (c .loop .inv .1 .0) (s .pre .1 .1) (c .loop .inv .0)
 
 -- The room is as long as before when that part is back.
 back : (t : ℕ) (c : Stretched t)
@@ -137,14 +139,14 @@ back t c =
 
 -- After `place` the loop has come to the value behind the interval.
 placed : (t : ℕ) (c : Placed t)
-    → (let s = c .before .before .before .before .before .before .before .before .before .before .before .before .before .before .before .before .before in
-    Progress (now (s .args .first)) (now (s .args .second)) (s .args .task) (valuesFrom (s .args .point .words) 0 (s .args .field)) (s .args .field)
+    → (let s = c .before .before .before .before .before .before .before .before .before .before .before .before .before .before .before .before .before .before in
+    Progress (now (s .args .first)) (now (s .args .second)) (s .args .task) (valuesFrom (s .args .branch .point .words) 0 (s .args .field)) (s .args .field)
     (c .place .last .0) (c .place .result) (number (c .before .before .before .before .before .before .before .before .before .before .interval-end .result) + 1))
 placed t c =
     let y = c .before .before .before .before .before .before .before in
     let e = y .before .before .before .interval-end .ensures in
     let l = y .before .before .before .before in
-    let s = l .before .before .before .before .before .before in
+    let s = l .before .before .before .before .before .before .before in
     let r = room t l in
     turn-lent _ _ _ _ _ (s .pre .1 .0 .0) (values-length _ 0 _) _ _ (e .reaches) (e .alike) _ _ _ _ _ _ (s .args .task .limit) _ (l .loop .inv .1 .1 .1) (omega arith)
     (rw (y .layout-stretch .kept .1 .1 .1 .1 .1 .1 .0) (r .enough)) _ (c .before .before .before .laid .given .1) (y .layout-stretch .ensures) (c .place .ensures)
@@ -169,7 +171,8 @@ unfolding number
 layout-field-loop-holds t c = (search needs, (search needs, (omega arith, progress-start _ _ _ _ _ _ _ _ refl refl refl)))
 
 layout-field-interval-end-requires : (t : ℕ) → layout-field-lts.Need-interval-end-requires (layout-field-claims t) (layout-field-at t) layout-field.Post layout-field-Inv-loop layout-field-μ-loop
-layout-field-interval-end-requires t c κs = search needs
+layout-field-interval-end-requires t c κs =
+    let s = c .before .before .before .before .before .before .before in ((s .pre .1 .0 .0, c .loop .inv .1 .1 .0), s .pre .1 .0 .1)
 
 layout-field-mul-base : (t : ℕ) → layout-field-lts.Need-mul-base (layout-field-claims t) (layout-field-at t) layout-field.Post layout-field-Inv-loop layout-field-μ-loop
 layout-field-mul-base t c = let r = room t (c .before .before) in omega arith
@@ -189,7 +192,7 @@ layout-field-part-layout-stretch-end t c = search needs
 layout-field-layout-stretch-requires : (t : ℕ) → layout-field-lts.Need-layout-stretch-requires (layout-field-claims t) (layout-field-at t) layout-field.Post layout-field-Inv-loop layout-field-μ-loop
 layout-field-layout-stretch-requires t c κs =
     let l = c .before .before .before in
-    let s = l .before .before .before .before .before .before in
+    let s = l .before .before .before .before .before .before .before in
     (omega (arith, s .pre .0, s .pre .1 .0 .0), (s .pre .1 .0, room t l .behind))
 
 layout-field-enum-known-laid : (t : ℕ) → layout-field-lts.Need-enum-known-laid (layout-field-claims t) (layout-field-at t) layout-field.Post layout-field-Inv-loop layout-field-μ-loop
@@ -202,8 +205,8 @@ layout-field-returns : (t : ℕ) → layout-field-lts.Need-returns (layout-field
 layout-field-returns t c =
     let y = c .before .before .before in
     let l = y .before .before .before .before in
-    let s = l .before .before .before .before .before .before in
-    over-behind (now (s .args .first)) (now (s .args .second)) (s .args .task) (valuesFrom (s .args .point .words) 0 (s .args .field)) (s .args .field) (s .pre .1 .0 .0)
+    let s = l .before .before .before .before .before .before .before in
+    over-behind (now (s .args .first)) (now (s .args .second)) (s .args .task) (valuesFrom (s .args .branch .point .words) 0 (s .args .field)) (s .args .field) (s .pre .1 .0 .0)
     (s .args .task .limit) (number (l .loop .from)) (omega (arith, l .loop .inv .1 .1 .0, ap number (l .before .point-value .ensures)))
     (laid-else _ _ _ _ _ (tagOf the-type) (λ m. refl) _ (y .layout-stretch .ensures) (c .match .keys2)) _
 
@@ -211,7 +214,7 @@ layout-field-place-requires : (t : ℕ) → layout-field-lts.Need-place-requires
 layout-field-place-requires t c κs =
     let y = c .before .before .before .before .before .before in
     let l = y .before .before .before .before in
-    let s = l .before .before .before .before .before .before in
+    let s = l .before .before .before .before .before .before .before in
     let r = room t l in
     let n = laid-count (s .args .task .limit) _ _ _ _ _ _ (c .before .before .laid .given .1) (y .layout-stretch .ensures) .0 in
     (s .pre .1 .0 .0, (l .loop .inv .1 .1 .1 .ordered, rw (back t y) (omega arith)))
@@ -223,7 +226,7 @@ layout-field-returns-2 : (t : ℕ) → layout-field-lts.Need-returns-2 (layout-f
 layout-field-returns-2 t c =
     let p = c .before .before .before .before in
     let i = p .before .before .before .before .before .before .before .before .before .before in
-    over-so-far _ _ _ _ _ (p .before .before .before .before .before .before .before .before .before .before .before .before .before .before .before .before .before .pre .1 .0 .0) _ _ _ _ (placed t p) (omega (arith, i .interval-end .ensures .within, ap number (i .before .before .point-value .ensures))) (c .if1 .taken) _
+    over-so-far _ _ _ _ _ (p .before .before .before .before .before .before .before .before .before .before .before .before .before .before .before .before .before .before .pre .1 .0 .0) _ _ _ _ (placed t p) (omega (arith, i .interval-end .ensures .within, ap number (i .before .before .point-value .ensures))) (c .if1 .taken) _
 
 layout-field-less-requires : (t : ℕ) → layout-field-lts.Need-less-requires (layout-field-claims t) (layout-field-at t) layout-field.Post layout-field-Inv-loop layout-field-μ-loop
 layout-field-less-requires t c κs = search needs
@@ -232,7 +235,7 @@ layout-field-stamp-requires : (t : ℕ) → layout-field-lts.Need-stamp-requires
 layout-field-stamp-requires t c κs =
     let p = c .before .before .before .before .before .before .before in
     let r = room t (p .before .before .before .before .before .before .before .before .before .before .before) in
-    (p .before .before .before .before .before .before .before .before .before .before .before .before .before .before .before .before .before .pre .1 .0 .0, (placed t p .ordered, omega (arith, c .before .before .before .if1 .left, p .place .kept .0, back t (p .before .before .before .before .before .before .before))))
+    (p .before .before .before .before .before .before .before .before .before .before .before .before .before .before .before .before .before .before .pre .1 .0 .0, (placed t p .ordered, omega (arith, c .before .before .before .if1 .left, p .place .kept .0, back t (p .before .before .before .before .before .before .before))))
 
 layout-field-same-length-3 : (t : ℕ) → layout-field-lts.Need-same-length-3 (layout-field-claims t) (layout-field-at t) layout-field.Post layout-field-Inv-loop layout-field-μ-loop
 layout-field-same-length-3 t c =
@@ -245,7 +248,7 @@ layout-field-returns-3 t c =
     let v = p .before .before .before .before .before .before .before .before .before .before .before .before .point-value in
     let g = ltb-false (number (i .result)) (number (v .result)) (sym (c .before .before .before .before .before .less .ensures) ∙ not-true _ (c .before .before .before .before .if2 .taken)) in
     let e : number (i .result) ≡ number (v .result) = omega (arith, i .ensures .within) in
-    laid-out _ _ _ _ _ (p .before .before .before .before .before .before .before .before .before .before .before .before .before .before .before .before .before .pre .1 .0 .0) _ _ _ _ _ (ap number (v .ensures)) (rw e at (placed t p)) (c .before .before .before .before .before .before .if1 .left) (c .before .before .stamp .ensures)
+    laid-out _ _ _ _ _ (p .before .before .before .before .before .before .before .before .before .before .before .before .before .before .before .before .before .before .pre .1 .0 .0) _ _ _ _ _ (ap number (v .ensures)) (rw e at (placed t p)) (c .before .before .before .before .before .before .if1 .left) (c .before .before .stamp .ensures)
 
 layout-field-next-requires : (t : ℕ) → layout-field-lts.Need-next-requires (layout-field-claims t) (layout-field-at t) layout-field.Post layout-field-Inv-loop layout-field-μ-loop
 layout-field-next-requires t c κs = search needs
@@ -260,33 +263,46 @@ layout-field-loop-again t c =
     let p = c .before .before .before .before .before .before .before in
     (p .place .kept .0 ∙ back t (p .before .before .before .before .before .before .before) ∙ p .before .before .before .before .before .before .before .before .before .before .before .loop .inv .0, (c .before .before .before .if1 .left, (omega arith, rw (f .0) (placed t p))))
 
-layout-stretch-with-value-requires : (t : ℕ) → layout-stretch-lts.Need-with-value-requires (layout-stretch-claims t) (layout-stretch-at t) layout-stretch.Post
-layout-stretch-with-value-requires t c κs = search needs
+-- Where the stretch is: its place behind the branch.
+abbrev Branched : ℕ → Type 0
+Branched t = layout-stretch-lts.After-branch-at (layout-stretch-claims t) (layout-stretch-at t) layout-stretch.Post
+
+-- The branch behind the value is one at the next field.
+behind : (t : ℕ) (c : Branched t)
+    → (let s = c .before .before .before .before in
+    BranchAt (s .args .task .direction) (now (s .args .first)) (now (s .args .second)) (s .args .field + 1) (c .branch-at .result))
+behind t c = let s = c .before .before .before .before in branch-next _ _ _ _ _ _ _ (s .pre .1 .0 .0) (s .pre .1 .0 .1) (c .branch-at .ensures)
+
+layout-stretch-branch-at-requires : (t : ℕ) → layout-stretch-lts.Need-branch-at-requires (layout-stretch-claims t) (layout-stretch-at t) layout-stretch.Post
+layout-stretch-branch-at-requires t c κs =
+    let b = c .before .before .before .pre .1 .0 in (b .0, (lists-within _ _ _ _ _ (b .1 .of-first), lists-within _ _ _ _ _ (b .1 .of-second)))
 
 layout-stretch-add-inner : (t : ℕ) → layout-stretch-lts.Need-add-inner (layout-stretch-claims t) (layout-stretch-at t) layout-stretch.Post
 layout-stretch-add-inner t c = search needs
 
 layout-stretch-leaf-requires : (t : ℕ) → layout-stretch-lts.Need-leaf-requires (layout-stretch-claims t) (layout-stretch-at t) layout-stretch.Post
 layout-stretch-leaf-requires t c κs =
-    let s = c .before .before .before .before .before .before in let w = words-next (s .args .task .limit) (s .args .field) (s .pre .1 .0 .0) in omega arith
+    let s = c .before .before .before .before .before .before in
+    let w = words-next (s .args .task .limit) (s .args .field) (s .pre .1 .0 .0) in
+    (omega arith, rw (c .before .if1 .taken) at (behind t (c .before .before)))
 
 layout-stretch-same-length : (t : ℕ) → layout-stretch-lts.Need-same-length (layout-stretch-claims t) (layout-stretch-at t) layout-stretch.Post
 layout-stretch-same-length t c = search needs
 
 layout-stretch-returns : (t : ℕ) → layout-stretch-lts.Need-returns (layout-stretch-claims t) (layout-stretch-at t) layout-stretch.Post
 layout-stretch-returns t c = let s = c .before .before .before .before .before .before .before .before .before in
-    laid-last _ _ (s .args .task) _ _ _ _ (s .pre .1 .0 .1) (s .pre .1 .0 .0) (c .before .before .before .before .before .with-value .ensures) _ _ _ (c .before .before .before .before .if1 .taken) (c .before .before .leaf .ensures)
+    laid-last _ _ (s .args .task) _ _ _ _ (s .pre .1 .0 .1 .sized) (s .pre .1 .0 .0) (c .before .before .before .before .before .branch-at .ensures .words) _ _ _ (c .before .before .before .before .if1 .taken) (c .before .before .leaf .ensures)
 
 layout-stretch-layout-field-requires : (t : ℕ) → layout-stretch-lts.Need-layout-field-requires (layout-stretch-claims t) (layout-stretch-at t) layout-stretch.Post
 layout-stretch-layout-field-requires t c κs = let s = c .before .before .before .before .before .before in
-    (omega (arith, s .pre .0, s .pre .1 .0 .0), ((omega (arith, s .pre .1 .0 .0, c .before .if1 .left), rw (c .before .before .with-value .ensures) (simp length-set (s .pre .1 .0 .1))), search needs))
+    (omega (arith, s .pre .0, s .pre .1 .0 .0), ((omega (arith, s .pre .1 .0 .0, c .before .if1 .left), behind t (c .before .before)), search needs))
 
 layout-stretch-same-length-2 : (t : ℕ) → layout-stretch-lts.Need-same-length-2 (layout-stretch-claims t) (layout-stretch-at t) layout-stretch.Post
 layout-stretch-same-length-2 t c = search needs
 
 layout-stretch-returns-2 : (t : ℕ) → layout-stretch-lts.Need-returns-2 (layout-stretch-claims t) (layout-stretch-at t) layout-stretch.Post
 layout-stretch-returns-2 t c = let s = c .before .before .before .before .before .before .before .before .before in
-    laid-field _ _ (s .args .task) _ _ _ _ (s .pre .1 .0 .1) (s .pre .1 .0 .0) (c .before .before .before .before .before .with-value .ensures) _ _ _ (c .before .before .layout-field .ensures)
+    laid-field _ _ (s .args .task) _ _ _ _ (s .pre .1 .0 .1 .sized) (s .pre .1 .0 .0) (c .before .before .before .before .before .branch-at .ensures .words) _ _ _ (c .before .before .layout-field .ensures)
 
 pub +layout-field+layout-stretch-spec : {M : Type 1} → statement M
 +layout-field+layout-stretch-spec =
@@ -318,7 +334,7 @@ pub +layout-field+layout-stretch-spec : {M : Type 1} → statement M
     (layout-field-loop-again t))
     λ t. layout-stretch-lts.spec (layout-stretch-claims t) (layout-stretch-at t)
     layout-stretch.Post
-    (layout-stretch-with-value-requires t)
+    (layout-stretch-branch-at-requires t)
     (layout-stretch-add-inner t)
     (layout-stretch-leaf-requires t)
     (layout-stretch-same-length t)

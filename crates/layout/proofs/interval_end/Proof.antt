@@ -8,7 +8,7 @@ end-among-requires : tie.Need-end-among-requires
 end-among-requires c κs = search needs
 
 end-among-requires-2 : tie.Need-end-among-requires-2
-end-among-requires-2 c κs = (search needs, c .end-among .ensures .reaches)
+end-among-requires-2 c κs = let s = c .before .before .before .before in ((s .pre .0 .0, c .end-among .ensures .reaches), s .pre .1 .of-second)
 
 returns : tie.Need-returns
 returns c = ends-both _ _ _ _ _ _ _ _ _ _ _ (c .before .end-among .ensures) (c .end-among2 .ensures)

@@ -8,10 +8,10 @@ use Rattle.layout.proofs.leaf.Statement.{statement}
 use Rattle.layout.proofs.leaf.Tie as tie
 
 action-at-requires : tie.Need-action-at-requires
-action-at-requires c κs = search needs
+action-at-requires c κs = c .before .before .before .before .pre .1 .of-first
 
 action-at-requires-2 : tie.Need-action-at-requires-2
-action-at-requires-2 c κs = search needs
+action-at-requires-2 c κs = c .before .before .before .before .before .pre .1 .of-second
 
 returns : tie.Need-returns
 returns c = laid-agreed _ _ _ _ _ _ (c .before .before .action-at .ensures) (c .before .action-at2 .ensures) (c .if1 .taken) _
@@ -29,7 +29,7 @@ same-length : tie.Need-same-length
 same-length c = search needs
 
 returns-3 : tie.Need-returns-3
-returns-3 c = laid-leaf _ _ _ _ _ _ (c .before .before .before .before .action-at .ensures) (c .before .before .before .action-at2 .ensures) (c .before .before .if1 .left) (c .if2 .left) (now (c .before .before .before .before .before .before .before .before .args .room)) (c .before .before .before .before .before .before .before .before .pre)
+returns-3 c = laid-leaf _ _ _ _ _ _ (c .before .before .before .before .action-at .ensures) (c .before .before .before .action-at2 .ensures) (c .before .before .if1 .left) (c .if2 .left) (now (c .before .before .before .before .before .before .before .before .before .args .room)) (c .before .before .before .before .before .before .before .before .before .pre .0)
 
 pub leaf-spec : {M : Type 1} → statement M
 leaf-spec =

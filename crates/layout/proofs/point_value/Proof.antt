@@ -7,20 +7,20 @@ use Rattle.layout.proofs.point_value.Tie as tie
 mul-at : tie.Need-mul-at
 mul-at c = search needs
 
-mul-t5 : tie.Need-mul-t5
-mul-t5 c = search needs
+mul-t4 : tie.Need-mul-t4
+mul-t4 c = search needs
 
-element-copy-out-t8 : tie.Need-element-copy-out-t8
-element-copy-out-t8 c = search needs
+element-copy-out-t7 : tie.Need-element-copy-out-t7
+element-copy-out-t7 c = search needs
 
-add-t9 : tie.Need-add-t9
-add-t9 c = search needs
+add-t8 : tie.Need-add-t8
+add-t8 c = search needs
 
-mul-t10 : tie.Need-mul-t10
-mul-t10 c = search needs
+mul-t9 : tie.Need-mul-t9
+mul-t9 c = search needs
 
-element-copy-out-t13 : tie.Need-element-copy-out-t13
-element-copy-out-t13 c = search needs
+element-copy-out-t12 : tie.Need-element-copy-out-t12
+element-copy-out-t12 c = search needs
 
 returns : tie.Need-returns
 unfolding valueAt
@@ -29,4 +29,4 @@ returns c = search needs
 pub point-value-spec : {M : Type 1} → statement M
 point-value-spec =
     tie.close
-    (tie.spec mul-at mul-t5 element-copy-out-t8 add-t9 mul-t10 element-copy-out-t13 returns)
+    (tie.spec mul-at mul-t4 element-copy-out-t7 add-t8 mul-t9 element-copy-out-t12 returns)

@@ -15,8 +15,8 @@ use Rattle.layout.proofs.ranges_hold.Tie as tie
 abbrev Inv-loop : tie.InvT-loop
 Inv-loop rows row point field base f₀ f =
     (f ≤ field)
-    × (holds (rangesFrom rows row 0 field) (valuesFrom (point .words) 0 field)
-    ≡ holds (rangesFrom rows row f (field - f)) (valuesFrom (point .words) f (field - f)))
+    × (holds (rangesFrom rows row 0 field) (valuesFrom point 0 field)
+    ≡ holds (rangesFrom rows row f (field - f)) (valuesFrom point f (field - f)))
 
 abbrev μ-loop : tie.MeasureT-loop
 μ-loop rows row point field base f₀ f = field - f
@@ -46,7 +46,7 @@ returns : tie.Need-returns Inv-loop μ-loop
 returns c = let s = c .before .before .before .before .before .before in
     let l = c .before .before .before .before .loop in
     sym (l .inv .1
-    ∙ holds-stop (now (s .args .rows)) (s .args .point .words) (s .args .row) (l .f) (s .args .field) (search needs) _ (c .before .before .point-value .ensures)
+    ∙ holds-stop (now (s .args .rows)) (now (s .args .point)) (s .args .row) (l .f) (s .args .field) (search needs) _ (c .before .before .point-value .ensures)
     (sym (c .before .range-holds .ensures) ∙ not-true _ (c .if1 .taken)))
 
 add-f : tie.Need-add-f Inv-loop μ-loop
@@ -60,13 +60,13 @@ loop-again c = let s = c .before .before .before .before .before .before in
     let l = c .before .before .before .before .loop in (
       search needs,
       l .inv .1
-          ∙ holds-go (now (s .args .rows)) (s .args .point .words) (s .args .row) (l .f) (s .args .field) (search needs) _ (c .before .before .point-value .ensures)
+          ∙ holds-go (now (s .args .rows)) (now (s .args .point)) (s .args .row) (l .f) (s .args .field) (search needs) _ (c .before .before .point-value .ensures)
           (sym (c .before .range-holds .ensures) ∙ not-false _ (c .if1 .left)),
     )
 
 returns-2 : tie.Need-returns-2 Inv-loop μ-loop
 returns-2 c = let s = c .before .before .before in
-    sym (c .before .loop .inv .1 ∙ holds-ended (now (s .args .rows)) (s .args .point .words) (s .args .row) (c .before .loop .f) (s .args .field) (search needs))
+    sym (c .before .loop .inv .1 ∙ holds-ended (now (s .args .rows)) (now (s .args .point)) (s .args .row) (c .before .loop .f) (s .args .field) (search needs))
 
 pub ranges-hold-spec : {M : Type 1} → statement M
 ranges-hold-spec =

@@ -21,7 +21,7 @@ point-value-requires-5 c κs = search needs
 
 returns : tie.Need-returns
 unfolding valuesFrom
-returns c = rw (c .before .before .before .before .point-value .ensures, c .before .before .before .point-value2 .ensures, c .before .before .point-value3 .ensures, c .before .point-value4 .ensures, c .point-value5 .ensures)
+returns c = rw (c .before .before .before .before .before .before .before .before .point-value .ensures, c .before .before .before .before .before .before .point-value2 .ensures, c .before .before .before .before .point-value3 .ensures, c .before .before .point-value4 .ensures, c .point-value5 .ensures)
 
 pub selectors-of-spec : {M : Type 1} → statement M
 selectors-of-spec =

@@ -1,0 +1,242 @@
+-- Laws of lists of rows. Assumes nothing.
+use Prim.Native.Nat.{ℕ, zero, suc, _+_, _-_, _*_, _/_, _≤_, _<_, min}
+use native.Mathlib.Omega.{arith}
+use native.Mathlib.Decide.{decLt}
+use native.Mathlib.Nat.{min-le-left, min-eq-left}
+use native.Mathlib.Numerals.{add-one}
+use mathlib.Core.Path.{_≡_, refl, sym, _∙_, ap}
+use mathlib.Core.Bool.{Bool, true, false, cond, _&&_, false≢true, and-true, and-assoc}
+use mathlib.Core.List.{List, [], _∷_, _++_}
+use mathlib.Core.Logic.{_⊎_, ⊎-elim}
+use lib.ListN.{length, getD, set, take, drop, length-set}
+use lib.Seq.{length-take-le, getD-take, drop-cons, take-suc-set, take-set-le}
+use Rattle.selectors.specs.Range.{Range, contains}
+use Rattle.selectors.specs.Value.{number}
+use Rattle.selectors.specs.declared.Direction.{Direction}
+use Rattle.selectors.specs.declared.Value.{Value}
+use Rattle.normal_form.specs.Search.{holds}
+use Rattle.policy.specs.Policy.{appliesTo, orderedSearch}
+use Rattle.policy.specs.Words.{actionWord, actionOf, directionOf, rowAt, rowsFrom, policyRows, rowWords}
+use Rattle.policy.specs.WordsLaws.{action-word}
+use Rattle.policy.specs.declared.Action.the-variants.{Discard}
+use Rattle.layout.specs.Decode.{valuesFrom, rangeOf, rangesFrom, active}
+use Rattle.layout.specs.DecodeLaws.{active-matches}
+use Rattle.layout.specs.Steps.{AlikeTo, AlikeAmong, Ends}
+use Rattle.layout.specs.StepsLaws.{alike-less, each-more}
+use Rattle.layout.specs.FormLaws.{values-length, values-with, ranges-split, ranges-length, holds-append}
+use Rattle.layout.specs.Lists.{those, upFrom, listed, Within, Takes, Lists, Narrowed, AlikeListed, BranchAt, Grown}
+use Rattle.layout.specs.declared.Picked.{Picked}
+use Rattle.layout.specs.declared.Branch.{Branch}
+
+-- One number more.
+module _ (p : ℕ → Bool) (x : ℕ) where
+  those-kept : (xs : List ℕ) → p x ≡ true → those p (xs ++ x ∷ []) ≡ those p xs ++ x ∷ []
+  unfolding those
+  those-kept [] e = rw e
+  those-kept (y ∷ xs) e = by (p y) refl (those-kept xs e)
+    where
+      by : (b : Bool) → p y ≡ b → those p (xs ++ x ∷ []) ≡ those p xs ++ x ∷ []
+          → cond (p y) (y ∷ those p (xs ++ x ∷ [])) (those p (xs ++ x ∷ [])) ≡ cond (p y) (y ∷ those p xs) (those p xs) ++ x ∷ []
+      by true g ih = rw (g, ih)
+      by false g ih = rw (g, ih)
+
+  those-passed : (xs : List ℕ) → p x ≡ false → those p (xs ++ x ∷ []) ≡ those p xs
+  unfolding those
+  those-passed [] e = rw e
+  those-passed (y ∷ xs) e = rw (those-passed xs e)
+
+  -- A list with the next number written behind the others: kept, or passed over.
+  module _ (xs list : List ℕ) (n : ℕ) (h : n < 256) (t : Takes p xs list n) where
+    takes-kept : p x ≡ true → Takes p (xs ++ x ∷ []) (set list n x) (n + 1)
+    takes-kept e = record {
+      sized = length-set list n x ∙ t .sized;
+      fits = omega arith;
+      rows = rw (add-one n, take-suc-set list n x (omega (arith, t .sized)), t .rows) (sym (those-kept xs e));
+    }
+
+    takes-passed : p x ≡ false → Takes p (xs ++ x ∷ []) (set list n x) n
+    takes-passed e = record {
+      sized = length-set list n x ∙ t .sized;
+      fits = omega arith;
+      rows = take-set-le n list n x (omega arith) ∙ t .rows ∙ sym (those-passed xs e);
+    }
+
+    pub takes-next : (ys : List ℕ) → ys ≡ xs ++ x ∷ [] → (n′ : ℕ) → ((p x ≡ true) × (n′ ≡ n + 1)) ⊎ ((p x ≡ false) × (n′ ≡ n)) → Takes p ys (set list n x) n′
+    takes-next ys e n′ o = ⊎-elim (λ w. rw (e, w .1) (takes-kept (w .0))) (λ w. rw (e, w .1) (takes-passed (w .0))) o
+
+pub takes-none : (p : ℕ → Bool) (list : List ℕ) → length list ≡ 256 → Takes p [] list 0
+unfolding those
+takes-none p list e = record { sized = e; fits = omega arith; rows = refl }
+
+upFrom-more : (i n : ℕ) → upFrom i (suc n) ≡ upFrom i n ++ (i + n) ∷ []
+unfolding upFrom
+upFrom-more i zero = let e : i + 0 ≡ i = omega arith in rw e
+upFrom-more i (suc n) = let e : suc i + n ≡ i + suc n = omega arith in ap (i ∷_) (upFrom-more (suc i) n ∙ rw e)
+
+pub rows-more : (n : ℕ) → upFrom 0 (n + 1) ≡ upFrom 0 n ++ n ∷ []
+rows-more n = let e : 0 + n ≡ n = omega arith in rw add-one (upFrom-more 0 n ∙ rw e)
+
+-- One test after another.
+those-both : (p q r : ℕ → Bool) → ((x : ℕ) → r x ≡ (p x && q x)) → (xs : List ℕ) → those r xs ≡ those q (those p xs)
+unfolding those
+those-both p q r e [] = refl
+those-both p q r e (x ∷ xs) = rw (e x) (by (p x) (q x) refl refl (those-both p q r e xs))
+  where
+    by : (a b : Bool) → p x ≡ a → q x ≡ b → those r xs ≡ those q (those p xs)
+        → cond (p x && q x) (x ∷ those r xs) (those r xs) ≡ those q (cond (p x) (x ∷ those p xs) (those p xs))
+    by true true s t ih = rw (s, t, ih)
+    by true false s t ih = rw (s, t, ih)
+    by false b s t ih = rw (s, ih)
+
+-- The numbers that a test takes from n numbers from i on: they are among these, and each for which it is true is one of them.
+module _ (p : ℕ → Bool) where
+  those-below : (i n k : ℕ) → k < length (those p (upFrom i n)) → getD (those p (upFrom i n)) k 0 < i + n
+  unfolding those upFrom
+  those-below i zero k h = absurd (omega arith)
+  those-below i (suc n) k h = by (p i) refl (those p (upFrom (suc i) n)) (λ j g. those-below (suc i) n j g) k h
+    where
+      by : (b : Bool) → p i ≡ b → (xs : List ℕ) → ((j : ℕ) → j < length xs → getD xs j 0 < suc i + n)
+          → (k : ℕ) → k < length (cond (p i) (i ∷ xs) xs) → getD (cond (p i) (i ∷ xs) xs) k 0 < i + suc n
+      by true e xs ih zero g = rw e (omega arith)
+      by true e xs ih (suc k) g = let l : suc k < length (i ∷ xs) = rw e at g in rw e (omega (arith, ih k (omega arith)))
+      by false e xs ih k g = rw e (omega (arith, ih k (rw e at g)))
+
+  -- What is true at each number that is taken.
+  those-each : (Q : ℕ → Type 0) (i n : ℕ) → ((k : ℕ) → k < length (those p (upFrom i n)) → Q (getD (those p (upFrom i n)) k 0))
+      → (j : ℕ) → i ≤ j → j < i + n → p j ≡ true → Q j
+  unfolding those upFrom
+  those-each Q i zero q j h g t = absurd (omega arith)
+  those-each Q i (suc n) q j h g t =
+      by (p i) refl (those p (upFrom (suc i) n)) q (λ all l. those-each Q (suc i) n all j l (omega arith) t) (decLt i j)
+    where
+      by : (b : Bool) → p i ≡ b → (xs : List ℕ) → ((k : ℕ) → k < length (cond (p i) (i ∷ xs) xs) → Q (getD (cond (p i) (i ∷ xs) xs) k 0))
+          → (((k : ℕ) → k < length xs → Q (getD xs k 0)) → suc i ≤ j → Q j) → Dec (i < j) → Q j
+      by true e xs all ih (yes l) = let a = rw e at all in ih (λ k m. a (suc k) (omega arith)) l
+      by true e xs all ih (no l) = let a = rw e at all in let z : i ≡ j = omega arith in rw z at (a 0 (omega arith))
+      by false e xs all ih (yes l) = ih (rw e at all) l
+      by false e xs all ih (no l) = let z : i ≡ j = omega arith in absurd (false≢true (sym e ∙ rw z t))
+
+-- A list of rows that a test takes from the first ones.
+module _ (p : ℕ → Bool) (m : ℕ) (list : List ℕ) (n : ℕ) (t : Takes p (upFrom 0 m) list n) where
+  taken : length (those p (upFrom 0 m)) ≡ n
+  taken = sym (ap length (t .rows)) ∙ length-take-le n list (omega (arith, t .sized, t .fits))
+
+  taken-at : (k : ℕ) → k < n → getD (those p (upFrom 0 m)) k 0 ≡ getD list k 0
+  taken-at k h = sym (ap (λ (xs : List ℕ). getD xs k 0) (t .rows)) ∙ getD-take n list k 0 h
+
+  takes-below : (k : ℕ) → k < n → getD list k 0 < m
+  takes-below k h = omega (arith, those-below p 0 m k (rw taken h), taken-at k h)
+
+  takes-each : (Q : ℕ → Type 0) → ((k : ℕ) → k < n → Q (getD list k 0)) → (j : ℕ) → j < m → p j ≡ true → Q j
+  takes-each Q q j h e = those-each p Q 0 m (λ k g. let c : k < n = rw taken at g in rw (taken-at k c) (q k c)) j (omega arith) (omega arith) e
+
+-- The rows of a list, one after the other.
+module _ (ws xs : List ℕ) (f from : ℕ) where
+  pub listed-start : (best : ℕ) → from ≤ best → Ends from best best (AlikeListed ws xs 0 f from best)
+  unfolding AlikeListed
+  listed-start best h = record { reaches = h; within = omega arith; alike = λ i g. absurd (omega arith) }
+
+  pub listed-more : (n best last last′ : ℕ) → Ends from best last (AlikeListed ws xs n f from last)
+      → Ends from last last′ (AlikeTo (rangeOf ws (getD xs n 0) f) from last′) → Ends from best last′ (AlikeListed ws xs (n + 1) f from last′)
+  unfolding AlikeListed
+  listed-more n best last last′ s t =
+      each-more (λ i l. AlikeTo (rangeOf ws (getD xs i 0) f) from l) (λ i l l′ h a. alike-less _ from l l′ h a) from n best last last′ s t
+
+-- The listed rows of a policy that are active: they are rows of it, and values that are alike to them are alike to the listed rows.
+module _ (d : Direction) (ws : List ℕ) (f : ℕ) (before : List ℕ) (l : Picked) (t : Lists d ws f before l) where
+  pub lists-within : Within ws l
+  lists-within = record {
+    sized = t .sized;
+    fits = t .fits;
+    places = λ k h. omega (arith, takes-below _ _ (l .rows) (l .count) t k h, min-le-left (length ws / rowWords) 256);
+  }
+
+  lists-alike : (from last : ℕ) → AlikeListed ws (l .rows) (l .count) f from last → AlikeAmong d ws (listed ws) f before from last
+  unfolding AlikeListed AlikeAmong
+  lists-alike from last a = takes-each _ _ (l .rows) (l .count) t (λ i. AlikeTo (rangeOf ws i f) from last) a
+
+  pub lists-ends : (from best last : ℕ) → Ends from best last (AlikeListed ws (l .rows) (l .count) f from last)
+      → Ends from last last (AlikeAmong d ws (listed ws) f before from last)
+  lists-ends from best last e = record { reaches = e .reaches; within = omega arith; alike = lists-alike from last (e .alike) }
+
+-- A row is active behind one more value if it was before and its range of the field holds the value.
+module _ (d : Direction) (ws : List ℕ) (f : ℕ) (before : List ℕ) (e : length before ≡ f) (v : ℕ) where
+  active-next : (i : ℕ) → active d ws i (f + 1) (before ++ v ∷ []) ≡ (active d ws i f before && contains (rangeOf ws i f) v)
+  unfolding active rangesFrom holds
+  active-next i =
+      let z : 0 + f ≡ f = omega arith in
+      rw (
+        ranges-split ws i 0 f 1,
+        z,
+        holds-append (rangesFrom ws i 0 f) (rangeOf ws i f ∷ []) before (v ∷ []) (ranges-length ws i 0 f ∙ sym e),
+        and-true,
+      ) (sym (and-assoc (appliesTo (directionOf (getD ws (i * rowWords) 0)) d) (holds (rangesFrom ws i 0 f) before) (contains (rangeOf ws i f) v)))
+
+  pub lists-next : (old l : Picked) → Lists d ws f before old → Narrowed ws f v old l → Lists d ws (f + 1) (before ++ v ∷ []) l
+  lists-next old l s t = record {
+    sized = t .sized;
+    fits = t .fits;
+    rows = t .rows ∙ ap (those _) (s .rows) ∙ sym (those-both _ _ _ active-next _);
+  }
+
+-- The first row that is active behind all fields is the first match.
+module _ (d : Direction) (ws vs : List ℕ) where
+  search-found : (i m k j : ℕ) (js : List ℕ) → those (λ n. active d ws n 5 vs) (upFrom i m) ≡ j ∷ js
+      → orderedSearch d (rowsFrom ws i (m + k)) vs ≡ actionOf (getD ws (j * rowWords + 1) 0)
+  unfolding those upFrom orderedSearch rowsFrom rowAt
+  search-found i zero k j js e = let z : _≡_ {A = ℕ} 0 1 = cc in absurd (omega arith)
+  search-found i (suc m) k j js e =
+      let n : suc m + k ≡ suc (m + k) = omega arith in
+      ap (λ (c : ℕ). orderedSearch d (rowsFrom ws i c) vs) n
+      ∙ rw (← (active-matches d ws i vs)) (by (active d ws i 5 vs) refl (those (λ n. active d ws n 5 vs) (upFrom (suc i) m)) (λ q. search-found (suc i) m k j js q) e)
+    where
+      by : (b : Bool) → active d ws i 5 vs ≡ b → (xs : List ℕ)
+          → (xs ≡ j ∷ js → orderedSearch d (rowsFrom ws (suc i) (m + k)) vs ≡ actionOf (getD ws (j * rowWords + 1) 0))
+          → cond (active d ws i 5 vs) (i ∷ xs) xs ≡ j ∷ js
+          → cond (active d ws i 5 vs) (actionOf (getD ws (i * rowWords + 1) 0)) (orderedSearch d (rowsFrom ws (suc i) (m + k)) vs)
+          ≡ actionOf (getD ws (j * rowWords + 1) 0)
+      by true a xs ih q = let p : i ∷ xs ≡ j ∷ js = rw a at q in let z : i ≡ j = cc in rw (a, z)
+      by false a xs ih q = rw a (ih (rw a at q))
+
+  search-none : (i m : ℕ) → those (λ n. active d ws n 5 vs) (upFrom i m) ≡ [] → orderedSearch d (rowsFrom ws i m) vs ≡ Discard
+  unfolding those upFrom orderedSearch rowsFrom
+  search-none i zero e = refl
+  search-none i (suc m) e =
+      rw (← (active-matches d ws i vs)) (by (active d ws i 5 vs) refl (those (λ n. active d ws n 5 vs) (upFrom (suc i) m)) (λ q. search-none (suc i) m q) e)
+    where
+      by : (b : Bool) → active d ws i 5 vs ≡ b → (xs : List ℕ) → (xs ≡ [] → orderedSearch d (rowsFrom ws (suc i) m) vs ≡ Discard)
+          → cond (active d ws i 5 vs) (i ∷ xs) xs ≡ []
+          → cond (active d ws i 5 vs) (rowAt ws (i * rowWords) .action) (orderedSearch d (rowsFrom ws (suc i) m) vs) ≡ Discard
+      by true a xs ih q = let p : i ∷ xs ≡ [] = rw a at q in let z : _≡_ {A = ℕ} 0 1 = cc in absurd (omega arith)
+      by false a xs ih q = rw a (ih (rw a at q))
+
+  module _ (l : Picked) (t : Lists d ws 5 vs l) where
+    pub lists-found : 0 < l .count → getD ws (getD (l .rows) 0 0 * rowWords + 1) 0 ≡ actionWord (orderedSearch d (policyRows ws) vs)
+    lists-found h =
+        let xs = those (λ n. active d ws n 5 vs) (upFrom 0 (listed ws)) in
+        let n : length ws / rowWords ≡ listed ws + (length ws / rowWords - listed ws) = omega (arith, min-le-left (length ws / rowWords) 256) in
+        let r : orderedSearch d (policyRows ws) vs ≡ actionOf (getD ws (getD xs 0 0 * rowWords + 1) 0) =
+        ap (λ (c : ℕ). orderedSearch d (rowsFrom ws 0 c) vs) n
+        ∙ search-found 0 (listed ws) (length ws / rowWords - listed ws) (getD xs 0 0) (drop 1 xs) (drop-cons xs 0 0 (rw (taken _ _ (l .rows) (l .count) t) h)) in
+        sym (ap actionWord r ∙ action-word (getD ws (getD xs 0 0 * rowWords + 1) 0) ∙ ap (λ (j : ℕ). getD ws (j * rowWords + 1) 0) (taken-at _ _ (l .rows) (l .count) t 0 h))
+
+    pub lists-none : l .count ≡ 0 → length ws / rowWords ≤ 256 → 0 ≡ actionWord (orderedSearch d (policyRows ws) vs)
+    lists-none e h =
+        let n : listed ws ≡ length ws / rowWords = min-eq-left h in
+        sym (ap actionWord (search-none 0 (length ws / rowWords) (rw n at (sym (rw e at (t .rows))))))
+
+-- A branch with a value more is one at the next field, and one without values is one at the first field.
+module _ (d : Direction) (first second : List ℕ) where
+  pub branch-next : (f : ℕ) (v : Value) (old b : Branch) → f < 5 → BranchAt d first second f old → Grown first second f v old b → BranchAt d first second (f + 1) b
+  branch-next f v old b h s t =
+      let e : valuesFrom (b .point .words) 0 (f + 1) ≡ valuesFrom (old .point .words) 0 f ++ number v ∷ [] =
+      ap (λ (ps : List ℕ). valuesFrom ps 0 (f + 1)) (t .words) ∙ values-with (old .point .words) f v (omega (arith, s .sized)) in
+      record {
+        sized = rw (t .words, length-set, length-set) (s .sized);
+        of-first = rw e (lists-next d first f _ (values-length _ 0 f) (number v) (old .first) (b .first) (s .of-first) (t .of-first));
+        of-second = rw e (lists-next d second f _ (values-length _ 0 f) (number v) (old .second) (b .second) (s .of-second) (t .of-second));
+      }
+
+  pub branch-start : (b : Branch) → length (b .point .words) ≡ 10 → Lists d first 0 [] (b .first) → Lists d second 0 [] (b .second) → BranchAt d first second 0 b
+  unfolding valuesFrom
+  branch-start b e s t = record { sized = e; of-first = s; of-second = t }
