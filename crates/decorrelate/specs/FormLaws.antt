@@ -12,6 +12,7 @@ use lib.Seq.{drop-cons, getD-drop, drop-drop, take-add}
 use borrow.Author.Tests.{leb-true, le-leb, lt-leb}
 use Rattle.selectors.specs.Range.{Range, ipv4Sizes}
 use Rattle.selectors.specs.Value.{number}
+use Rattle.selectors.specs.Words.{valueAt, rangeAt, rangesAt}
 use Rattle.selectors.specs.declared.Direction.{Direction}
 use Rattle.normal_form.specs.Search.{Row, row, Combination}
 use Rattle.normal_form.specs.Shape.{Fits, normal-form-fits}
@@ -20,7 +21,7 @@ use Rattle.policy.specs.declared.Action.{Action}
 use Rattle.policy.specs.declared.Action.the-variants.{Discard}
 use Rattle.policy.specs.Action.{action-≟}
 use Rattle.policy.specs.Policy.{PolicyRow, orderedSearch}
-use Rattle.policy.specs.Words.{actionWord, valueAt, rangeAt, rangesAt, rowWords, rowsFrom, policyRows}
+use Rattle.policy.specs.Words.{actionWord, rowWords, rowsFrom, policyRows}
 use Rattle.policy_text.specs.RowWords.{rangesWords}
 use Rattle.layout.specs.Parting.{differenceForm}
 use Rattle.layout.specs.PartingLaws.{actionLeaf, difference-empty}

@@ -5,10 +5,11 @@ use mathlib.Core.List.{List, [], _∷_}
 use lib.ListN.{getD}
 use Rattle.selectors.specs.Range.{Range}
 use Rattle.selectors.specs.Value.{number}
+use Rattle.selectors.specs.Words.{valueAt, rangeAt}
 use Rattle.selectors.specs.declared.Direction.{Direction}
 use Rattle.normal_form.specs.Search.{Row, row, holds}
 use Rattle.policy.specs.Policy.{appliesTo}
-use Rattle.policy.specs.Words.{directionOf, valueAt, rangeAt, rowWords}
+use Rattle.policy.specs.Words.{directionOf, rowWords}
 use Rattle.layout.specs.Parting.{Parting, parting}
 
 -- The value of the field f in the words of a point, which has two for each field; and n values from the field f on.

@@ -11,11 +11,12 @@ use borrow.Author.Tests.{eq-eqb}
 use Rattle.selectors.specs.Range.{Range, contains, sameRange}
 use Rattle.selectors.specs.RangeLaws.{sameRange-true}
 use Rattle.selectors.specs.Value.{number}
+use Rattle.selectors.specs.Words.{valueAt, rangeAt, rangesAt}
 use Rattle.selectors.specs.declared.Direction.{Direction}
 use Rattle.selectors.specs.declared.Value.{Value}
 use Rattle.normal_form.specs.Search.{row, holds}
 use Rattle.policy.specs.Policy.{matches, orderedSearch, matchFrom}
-use Rattle.policy.specs.Words.{actionWord, valueAt, rangeAt, rangesAt, rowAt, policyRows, rowWords}
+use Rattle.policy.specs.Words.{actionWord, rowAt, policyRows, rowWords}
 use Rattle.policy.specs.WordsLaws.{action-word, actionFound, search-match}
 use Rattle.policy.specs.declared.Found.{Found}
 use Rattle.policy.specs.declared.Found.the-variants.{Row as FoundRow, Nothing}

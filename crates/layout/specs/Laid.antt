@@ -5,8 +5,9 @@ use mathlib.Core.Bool.{cond}
 use mathlib.Core.List.{List, [], _∷_}
 use lib.Dec.{leb}
 use lib.ListN.{length}
+use Rattle.selectors.specs.Words.{rangesAt}
 use Rattle.normal_form.specs.Search.{Row, row}
-use Rattle.policy.specs.Words.{rangesAt, rowWords}
+use Rattle.policy.specs.Words.{rowWords}
 use Rattle.layout.specs.Parting.{Parting}
 use Rattle.layout.specs.Decode.{sizesFrom, leafOf}
 use Rattle.layout.specs.declared.Point.{Point}

@@ -7,12 +7,13 @@ use mathlib.Core.Logic.{_≢_, _⊎_}
 use lib.ListN.{length, getD}
 use Rattle.selectors.specs.Range.{Range, contains}
 use Rattle.selectors.specs.Value.{number}
+use Rattle.selectors.specs.Words.{valueAt}
 use Rattle.selectors.specs.declared.Direction.{Direction}
 use Rattle.selectors.specs.declared.Value.{Value}
 use Rattle.normal_form.specs.Search.{Row}
 use Rattle.normal_form.specs.NormalForm.{under, normalForm}
 use Rattle.policy.specs.Policy.{PolicyRow}
-use Rattle.policy.specs.Words.{valueAt, policyRows, rowWords}
+use Rattle.policy.specs.Words.{policyRows, rowWords}
 use Rattle.layout.specs.Parting.{Parting, parting-≟, agreed, partingAt}
 use Rattle.layout.specs.Decode.{valuesFrom, sizesFrom, rangeOf, active, partRow, partRows}
 use Rattle.layout.specs.Laid.{answerOf}

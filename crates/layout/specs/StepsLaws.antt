@@ -14,11 +14,12 @@ use Rattle.selectors.specs.Range.{Range}
 use Rattle.selectors.specs.RangeLaws.{contains-in, contains-below, contains-above}
 use Rattle.selectors.specs.Ranges.{fromTo}
 use Rattle.selectors.specs.Value.{number}
+use Rattle.selectors.specs.Words.{valueAt, rangeAt}
 use Rattle.selectors.specs.declared.Direction.{Direction}
 use Rattle.selectors.specs.declared.Value.{Value}
 use Rattle.normal_form.specs.Search.{Row, row}
 use Rattle.normal_form.specs.NormalForm.{under}
-use Rattle.policy.specs.Words.{valueAt, rangeAt, rowWords}
+use Rattle.policy.specs.Words.{rowWords}
 use Rattle.layout.specs.Decode.{wordOf, rangeOf, rangesFrom, active, partRow, partRows}
 use Rattle.layout.specs.DecodeLaws.{value-moved, ranges-moved, row-moved, rows-moved, rows-split, rows-length}
 use Rattle.layout.specs.Steps.{AlikeTo, AlikeAmong, Ends, Outside, Put, Stamped, Begun, LaidOut, wordsFor}

@@ -7,7 +7,8 @@ use mathlib.Core.List.{List, _∷_}
 use lib.Dec.{lit<}
 use lib.ListN.{length, getD, take, length-take}
 use lib.Seq.{getD-take}
-use Rattle.policy.specs.Words.{valueAt, rowAt, rowsFrom, rowWords, policyRows}
+use Rattle.selectors.specs.Words.{valueAt}
+use Rattle.policy.specs.Words.{rowAt, rowsFrom, rowWords, policyRows}
 
 -- A row is what its words are.
 module _ (ws ws′ : List ℕ) (at at′ : ℕ) (same : (k : ℕ) → k < rowWords → getD ws (at + k) 0 ≡ getD ws′ (at′ + k) 0) where

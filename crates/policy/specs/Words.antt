@@ -5,11 +5,9 @@ use mathlib.Core.Bool.{cond}
 use mathlib.Core.List.{List, [], _∷_}
 use lib.Dec.{eqb}
 use lib.ListN.{length, getD}
-use Rattle.selectors.specs.Range.{Range}
-use Rattle.selectors.specs.Ranges.{fromTo}
 use Rattle.selectors.specs.Value.{number}
+use Rattle.selectors.specs.Words.{valueAt, rangesAt}
 use Rattle.selectors.specs.declared.Selectors.{Selectors}
-use Rattle.selectors.specs.declared.Value.{Value}
 use Rattle.selectors.specs.declared.Direction.the-variants.{Out, In}
 use Rattle.policy.specs.declared.Action.{Action}
 use Rattle.policy.specs.declared.Action.the-variants.{Discard, Bypass, Protect}
@@ -29,16 +27,6 @@ abbrev pub actionWord : Action → ℕ
 actionWord Discard = 0
 actionWord Bypass = 1
 actionWord (Protect n) = n + 2
-
--- The value of two words and the range of four, from the word i on.
-unfoldable pub valueAt : List ℕ → ℕ → Value
-valueAt ws i = record { upper = getD ws i 0; lower = getD ws (i + 1) 0 }
-
-abbrev pub rangeAt : List ℕ → ℕ → Range
-rangeAt ws i = fromTo (valueAt ws i) (valueAt ws (i + 2))
-
-abbrev pub rangesAt : List ℕ → ℕ → List Range
-rangesAt ws i = rangeAt ws i ∷ rangeAt ws (i + 4) ∷ rangeAt ws (i + 8) ∷ rangeAt ws (i + 12) ∷ rangeAt ws (i + 16) ∷ []
 
 abbrev pub rowWords : ℕ
 rowWords = 22

@@ -10,6 +10,7 @@ use lib.ListN.{getD}
 use borrow.Author.Tests.{ne-eqb}
 use Rattle.selectors.specs.Range.{contains}
 use Rattle.selectors.specs.Ranges.{fromTo}
+use Rattle.selectors.specs.Words.{valueAt, rangeAt}
 use Rattle.selectors.specs.declared.Direction.{Direction}
 use Rattle.selectors.specs.Value.{combination}
 use Rattle.selectors.specs.declared.Selectors.{Selectors}
@@ -19,7 +20,7 @@ use Rattle.policy.specs.declared.Found.{Found}
 use Rattle.policy.specs.declared.Found.the-variants.{Row, Nothing}
 use Rattle.policy.specs.declared.Action.{Action}
 use Rattle.policy.specs.declared.Action.the-variants.{Discard, Bypass, Protect}
-use Rattle.policy.specs.Words.{actionOf, actionWord, valueAt, rangeAt, rowAt, rowsFrom, rowWords, selectorWords, valuesOf}
+use Rattle.policy.specs.Words.{actionOf, actionWord, rowAt, rowsFrom, rowWords, selectorWords, valuesOf}
 
 -- Actions and words are the same thing twice.
 pub action-word : (n : ℕ) → actionWord (actionOf n) ≡ n

@@ -13,12 +13,13 @@ use borrow.Author.Tests.{lt-ltb, le-ltb, le-leb, lt-leb}
 use Rattle.selectors.specs.Range.{Range, full, sameRange, absent}
 use Rattle.selectors.specs.Value.{number}
 use Rattle.selectors.specs.ValueLaws.{number-lower}
+use Rattle.selectors.specs.Words.{rangeAt}
 use Rattle.selectors.specs.declared.Value.{Value}
 use Rattle.selectors.specs.declared.Direction.{Direction}
 use Rattle.selectors.specs.declared.Direction.the-variants.{Out, In}
 use Rattle.policy.specs.declared.RowDirection.the-variants.{Only}
 use Rattle.policy.specs.Policy.{PolicyRow}
-use Rattle.policy.specs.Words.{actionOf, rangeAt, rowAt, rowsFrom}
+use Rattle.policy.specs.Words.{actionOf, rowAt, rowsFrom}
 use Rattle.policy_text.specs.Bytes.{dash}
 use Rattle.policy_text.specs.BytesLaws.{left-more, left-none}
 use Rattle.policy_text.specs.Format.{any, opaqueWord}

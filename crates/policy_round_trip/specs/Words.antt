@@ -9,12 +9,13 @@ use lib.Seq.{getD-drop, drop-drop}
 use Rattle.selectors.specs.Range.{Range, ipv4Sizes}
 use Rattle.selectors.specs.Value.{number}
 use Rattle.selectors.specs.ValueLaws.{number-lower}
+use Rattle.selectors.specs.Words.{valueAt}
 use Rattle.selectors.specs.declared.Direction.the-variants.{Out, In}
 use Rattle.policy.specs.declared.Action.{Action}
 use Rattle.policy.specs.declared.RowDirection.{RowDirection}
 use Rattle.policy.specs.declared.RowDirection.the-variants.{Only, Both}
 use Rattle.policy.specs.Policy.{PolicyRow}
-use Rattle.policy.specs.Words.{directionOf, valueAt, rowWords, rowAt, rowsFrom, policyRows}
+use Rattle.policy.specs.Words.{directionOf, rowWords, rowAt, rowsFrom, policyRows}
 use Rattle.policy.specs.WordsLaws.{word-action}
 use Rattle.normal_form.specs.Shape.{Fits}
 use Rattle.policy_round_trip.specs.Files.{AllPrintable, first-printable, rest-printable}

@@ -13,11 +13,12 @@ use Rattle.selectors.specs.Range.{Range, range, contains}
 use Rattle.selectors.specs.RangeLaws.{both-true, contains-in, contains-below, contains-above, contains-between}
 use Rattle.selectors.specs.Ranges.{fromTo}
 use Rattle.selectors.specs.Value.{number}
+use Rattle.selectors.specs.Words.{valueAt, rangeAt, rangesAt}
 use Rattle.selectors.specs.declared.Direction.{Direction}
 use Rattle.selectors.specs.declared.Value.{Value}
 use Rattle.normal_form.specs.Search.{holds}
 use Rattle.policy.specs.Policy.{appliesTo, matches}
-use Rattle.policy.specs.Words.{valueAt, rangeAt, rangesAt, directionOf, rowAt, rowWords}
+use Rattle.policy.specs.Words.{directionOf, rowAt, rowWords}
 use Rattle.prune.specs.Boxes.{hit, hitOn, InBox, SameHits, FieldStand, BoxStand, RowStand, Surveyed, PartBelow, PartAbove}
 use Rattle.prune.specs.declared.Stand.{Stand}
 use Rattle.prune.specs.declared.Nearby.{Nearby}

@@ -6,11 +6,12 @@ use mathlib.Core.List.{List, [], _∷_}
 use mathlib.Core.Logic.{_≢_}
 use lib.ListN.{getD, set}
 use Rattle.selectors.specs.Range.{Range, contains}
+use Rattle.selectors.specs.Words.{rangesAt}
 use Rattle.selectors.specs.declared.Direction.{Direction}
 use Rattle.normal_form.specs.Search.{holds}
 use Rattle.policy.specs.declared.Action.{Action}
 use Rattle.policy.specs.Policy.{PolicyRow, matches, orderedSearch}
-use Rattle.policy.specs.Words.{rangesAt, rowAt, rowsFrom, actionOf, rowWords}
+use Rattle.policy.specs.Words.{rowAt, rowsFrom, actionOf, rowWords}
 use Rattle.prune.specs.declared.Stand.{Stand}
 use Rattle.prune.specs.declared.Nearby.{Nearby}
 use Rattle.prune.specs.declared.Judged.{Judged}

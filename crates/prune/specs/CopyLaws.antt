@@ -11,11 +11,12 @@ use lib.Dec.{lit<}
 use lib.ListN.{length, getD, set, replicate, getD-replicate}
 use lib.Seq.{getD-set-same, getD-set-other}
 use borrow.Author.Tests.{lt-ltb, le-ltb}
+use Rattle.selectors.specs.Words.{valueAt, rangesAt}
 use Rattle.selectors.specs.declared.Direction.{Direction}
 use Rattle.normal_form.specs.Search.{holds}
 use Rattle.policy.specs.Policy.{appliesTo, matches}
 use Rattle.policy.specs.RowsLaws.{row-same, rows-same}
-use Rattle.policy.specs.Words.{valueAt, directionOf, rangesAt, rowAt, rowsFrom, rowWords, rowLimit}
+use Rattle.policy.specs.Words.{directionOf, rowAt, rowsFrom, rowWords, rowLimit}
 use Rattle.prune.specs.Prune.{Outcome}
 use Rattle.prune.specs.Boxes.{rowsOn, hit, Idle, IdleIn, IdleRow, Copied, SameSearch, SameRows}
 use Rattle.prune.specs.SearchLaws.{idle-gone}

@@ -6,9 +6,10 @@ use mathlib.Core.Path.{_≡_, refl, sym, _∙_, ap}
 use mathlib.Core.List.{List, [], _∷_, map, _++_}
 use lib.ListN.{length, drop, length-append}
 use lib.Seq.{getD-drop, drop-drop}
+use Rattle.selectors.specs.Words.{valueAt}
 use Rattle.selectors.specs.declared.Direction.{Direction}
 use Rattle.policy.specs.Policy.{orderedSearch}
-use Rattle.policy.specs.Words.{valueAt, rowWords, rowAt, rowsFrom, policyRows}
+use Rattle.policy.specs.Words.{rowWords, rowAt, rowsFrom, policyRows}
 use Rattle.policy.specs.RowsLaws.{row-same}
 use Rattle.row_records.specs.declared.Row.{Row}
 use Rattle.row_records.specs.Records.{rowOf, recordWords, recordsWords}

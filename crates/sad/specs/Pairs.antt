@@ -10,7 +10,7 @@ use lib.ListN.{length, getD, set}
 use lib.Seq.{paste}
 use Rattle.selectors.specs.Range.{Range, inField, addressSize, protocolSize, portSize}
 use Rattle.selectors.specs.Ranges.{fromTo}
-use Rattle.selectors.specs.declared.Value.{Value}
+use Rattle.selectors.specs.Words.{rangesAt}
 use Rattle.normal_form.specs.Search.{holds}
 use Rattle.sad.specs.declared.Ends.{Ends}
 use Rattle.sad.specs.declared.NewPair.{NewPair}
@@ -35,16 +35,6 @@ placeCount = 64
 
 abbrev pub placeWords : ℕ
 placeWords = 24
-
--- The value of two words and the range of four, from a word on.
-unfoldable pub valueAt : List ℕ → ℕ → Value
-valueAt ws at = record { upper = getD ws at 0; lower = getD ws (at + 1) 0 }
-
-abbrev pub rangeAt : List ℕ → ℕ → Range
-rangeAt ws at = fromTo (valueAt ws at) (valueAt ws (at + 2))
-
-abbrev pub rangesAt : List ℕ → ℕ → List Range
-rangesAt ws at = rangeAt ws at ∷ rangeAt ws (at + 4) ∷ rangeAt ws (at + 8) ∷ rangeAt ws (at + 12) ∷ rangeAt ws (at + 16) ∷ []
 
 -- ESP or AH.
 abbrev pub ipsec : ℕ → Bool

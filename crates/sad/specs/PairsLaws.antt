@@ -12,6 +12,7 @@ use lib.ListN.{length, getD, set}
 use borrow.Author.Tests.{lt-ltb, le-ltb, le-leb, lt-leb, eq-eqb, ne-eqb}
 use Rattle.selectors.specs.Range.{contains}
 use Rattle.selectors.specs.Ranges.{fromTo}
+use Rattle.selectors.specs.Words.{valueAt, rangeAt}
 use Rattle.selectors.specs.declared.Value.{Value}
 use Rattle.selectors.specs.declared.NewAddressRange.{NewAddressRange}
 use Rattle.selectors.specs.declared.NewAddressRange.the-variants.{Made as AddressMade, Refused as AddressRefused}
@@ -26,7 +27,7 @@ use Rattle.sad.specs.declared.Outcome.{Outcome}
 use Rattle.sad.specs.declared.Outcome.the-variants.{Done, ReservedSpi, AlreadyLive, TableFull, BadPair, NothingToRemove}
 use Rattle.sad.specs.declared.NewPair.{NewPair}
 use Rattle.sad.specs.declared.PairFound.the-variants.{Found, Nothing}
-use Rattle.sad.specs.Pairs.{Pair, placeCount, placeWords, valueAt, rangeAt, pairAt, liveAt, pairsFrom, pairs, pairFor, placeOf, freePlace, reservedSpi, wellFormed, pairWords, addOutcome, added, removeOutcome, removed, named, live, fitting, namedAt, freeAt, wanted, before, beats, bestOf, chosen, betterOf, firstFrom, fitsAt}
+use Rattle.sad.specs.Pairs.{Pair, placeCount, placeWords, pairAt, liveAt, pairsFrom, pairs, pairFor, placeOf, freePlace, reservedSpi, wellFormed, pairWords, addOutcome, added, removeOutcome, removed, named, live, fitting, namedAt, freeAt, wanted, before, beats, bestOf, chosen, betterOf, firstFrom, fitsAt}
 
 -- A range made of the values at its words is the range at those words.
 pub values-hold : (ws : List ℕ) (at v : ℕ) (low high : Value) → low ≡ valueAt ws at → high ≡ valueAt ws (at + 2)

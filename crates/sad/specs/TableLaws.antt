@@ -12,12 +12,13 @@ use borrow.Author.Tests.{not-true, leb-false}
 use lib.ListN.{length, getD, take, drop, set, length-set, List·getD-append}
 use lib.Seq.{paste, length-paste, length-paste-head, length-take-le, drop-paste, getD-take, getD-drop, getD-append-add, getD-set-same, getD-set-other}
 use Rattle.selectors.specs.RangeLaws.{both-true}
+use Rattle.selectors.specs.Words.{valueAt, rangesAt}
 use Rattle.sad.specs.declared.NewPair.{NewPair}
 use Rattle.sad.specs.declared.Place.{Place}
 use Rattle.sad.specs.declared.Place.the-variants.{At, Nowhere}
 use Rattle.sad.specs.declared.Outcome.{Outcome}
 use Rattle.sad.specs.declared.Outcome.the-variants.{Done, ReservedSpi, AlreadyLive, TableFull, BadPair, NothingToRemove}
-use Rattle.sad.specs.Pairs.{Pair, placeCount, placeWords, ipsec, valueAt, rangesAt, pairAt, liveAt, pairsFrom, pairs, named, namedAt, freeAt, firstFrom, placeOf, freePlace, newPair, pairWords, putAt, addedIf, added, live, reservedSpi, rangesIn, wellFormed, addOutcome, removeOutcome, clearedAt, removed}
+use Rattle.sad.specs.Pairs.{Pair, placeCount, placeWords, ipsec, pairAt, liveAt, pairsFrom, pairs, named, namedAt, freeAt, firstFrom, placeOf, freePlace, newPair, pairWords, putAt, addedIf, added, live, reservedSpi, rangesIn, wellFormed, addOutcome, removeOutcome, clearedAt, removed}
 use Rattle.sad.specs.PairsLaws.{first-bound, place-bound, pairs-live, pairs-free, none-free, removed-none, removed-at}
 
 -- A place is what its words are.

@@ -4,3 +4,4 @@ pub mod Value
 pub mod ValueLaws
 pub mod Ranges
 pub mod BetweenLaws
+pub mod Words

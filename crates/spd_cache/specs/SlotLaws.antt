@@ -10,11 +10,12 @@ use mathlib.Core.Logic.{_⊎_, inl, inr, ⊎-elim}
 use lib.Dec.{lit<}
 use lib.ListN.{length, getD, take, drop, length-take, length-drop, length-replicate, List·getD-append, take-append-drop}
 use lib.Seq.{paste, length-paste, length-paste-head, length-take-le, drop-paste, getD-take, getD-drop, getD-append-add}
+use Rattle.selectors.specs.Words.{valueAt}
 use Rattle.selectors.specs.declared.Direction.{Direction}
 use Rattle.policy.specs.declared.Found.{Found}
 use Rattle.policy.specs.declared.Found.the-variants.{Row, Nothing}
 use Rattle.policy.specs.Policy.{PolicyRow, matches, orderedSearch, matchFrom}
-use Rattle.policy.specs.Words.{valueAt, rowAt, rowsFrom, rowWords, policyRows}
+use Rattle.policy.specs.Words.{rowAt, rowsFrom, rowWords, policyRows}
 use Rattle.policy.specs.WordsLaws.{actionFound, search-match}
 use Rattle.policy.specs.RowsLaws.{row-same, rows-same, front-rows}
 use Rattle.spd_cache.specs.declared.Cache.{Cache}

@@ -1,6 +1,6 @@
 -- `layout::point_value` meets its contract: the two words are read. Assumes nothing.
 use borrow.Author.Needs.{needs}
-use Rattle.policy.specs.Words.{valueAt}
+use Rattle.selectors.specs.Words.{valueAt}
 use Rattle.layout.proofs.point_value.Statement.{statement}
 use Rattle.layout.proofs.point_value.Tie as tie
 

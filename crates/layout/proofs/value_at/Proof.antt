@@ -1,6 +1,6 @@
 -- `layout::value_at` meets its contract: the two words are read. Assumes nothing.
 use borrow.Author.Needs.{needs}
-use Rattle.policy.specs.Words.{valueAt}
+use Rattle.selectors.specs.Words.{valueAt}
 use Rattle.layout.proofs.value_at.Statement.{statement}
 use Rattle.layout.proofs.value_at.Tie as tie
 

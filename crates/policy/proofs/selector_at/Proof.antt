@@ -1,6 +1,6 @@
 -- `policy::selector_at` meets its contract: the two words are those of the definition. Assumes nothing.
-use Rattle.policy.specs.Words.{valueAt}
 use borrow.Author.Needs.{needs}
+use Rattle.selectors.specs.Words.{valueAt}
 use Rattle.policy.proofs.selector_at.Statement.{statement}
 use Rattle.policy.proofs.selector_at.Tie as tie
 

@@ -1,6 +1,6 @@
 -- `policy_print::value_at` meets its contract: the two words are read. Assumes nothing.
-use Rattle.policy.specs.Words.{valueAt}
 use borrow.Author.Needs.{needs}
+use Rattle.selectors.specs.Words.{valueAt}
 use Rattle.policy_print.proofs.value_at.Statement.{statement}
 use Rattle.policy_print.proofs.value_at.Tie as tie
 

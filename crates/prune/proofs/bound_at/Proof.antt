@@ -1,6 +1,6 @@
 -- `prune::bound_at` meets its contract. The two words are read. Assumes nothing.
 use borrow.Author.Needs.{needs}
-use Rattle.policy.specs.Words.{valueAt}
+use Rattle.selectors.specs.Words.{valueAt}
 use Rattle.prune.proofs.bound_at.Statement.{statement}
 use Rattle.prune.proofs.bound_at.Tie as tie
 

@@ -1,6 +1,6 @@
 -- `prune::value_at` meets its contract. The two words are read. Assumes nothing.
 use borrow.Author.Needs.{needs}
-use Rattle.policy.specs.Words.{valueAt}
+use Rattle.selectors.specs.Words.{valueAt}
 use Rattle.prune.proofs.value_at.Statement.{statement}
 use Rattle.prune.proofs.value_at.Tie as tie
 

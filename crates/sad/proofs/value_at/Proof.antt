@@ -1,6 +1,6 @@
 -- `sad::value_at` meets its contract: the two words are read. Assumes nothing.
-use Rattle.sad.specs.Pairs.{valueAt}
 use borrow.Author.Needs.{needs}
+use Rattle.selectors.specs.Words.{valueAt}
 use Rattle.sad.proofs.value_at.Statement.{statement}
 use Rattle.sad.proofs.value_at.Tie as tie
 
