@@ -9,10 +9,11 @@ use mathlib.Core.List.{List, _∷_, _++_}
 use mathlib.Core.Logic.{_≢_}
 use lib.Dec.{leb, lit<, lit≤}
 use borrow.Author.Tests.{not-true, leb-false}
-use lib.ListN.{length, getD, take, drop, set, length-set, List·getD-append}
-use lib.Seq.{paste, length-paste, length-paste-head, length-take-le, drop-paste, getD-take, getD-drop, getD-append-add, getD-set-same, getD-set-other}
+use lib.ListN.{length, getD, set, length-set}
+use lib.Seq.{length-paste, getD-set-same, getD-set-other}
 use Rattle.selectors.specs.RangeLaws.{both-true}
 use Rattle.selectors.specs.Words.{valueAt, rangesAt}
+use Rattle.selectors.specs.WordsLaws.{paste-before, paste-in, paste-after}
 use Rattle.sad.specs.declared.NewPair.{NewPair}
 use Rattle.sad.specs.declared.Place.{Place}
 use Rattle.sad.specs.declared.Place.the-variants.{At, Nowhere}
@@ -138,30 +139,6 @@ module _ (ws : List ℕ) (protocol spi j : ℕ) (e : placeOf ws protocol spi ≡
       rw e
       (pairs-without (set ws (j * placeWords) 0) j place-in cleared
       ∙ rw (same-before ws (set ws (j * placeWords) 0) j place-in other, same-after ws (set ws (j * placeWords) 0) j place-in other))
-
--- The words after n of them from the place `at` on were replaced: before those, among them, and after them.
-module _ (ws s : List ℕ) (at n : ℕ) (h : at + n ≤ length ws) (g : n ≤ length s) where
-  paste-before : (p : ℕ) → p < at → getD (paste ws at s n) p 0 ≡ getD ws p 0
-  paste-before p l =
-      List·getD-append (take at ws ++ take n s) (drop (at + n) ws) 0 p (omega (arith, length-paste-head ws at s n (omega arith) g))
-      ∙ List·getD-append (take at ws) (take n s) 0 p (omega (arith, length-take-le at ws (omega arith)))
-      ∙ getD-take at ws p 0 l
-
-  paste-in : (x : ℕ) → x < n → getD (paste ws at s n) (at + x) 0 ≡ getD s x 0
-  paste-in x l =
-      List·getD-append (take at ws ++ take n s) (drop (at + n) ws) 0 (at + x) (omega (arith, length-paste-head ws at s n (omega arith) g))
-      ∙ ap (λ k. getD (take at ws ++ take n s) (k + x) 0) (sym (length-take-le at ws (omega arith)))
-      ∙ getD-append-add (take at ws) (take n s) x 0
-      ∙ getD-take n s x 0 l
-
-  paste-after : (p : ℕ) → at + n ≤ p → getD (paste ws at s n) p 0 ≡ getD ws p 0
-  paste-after p l =
-      let e : p ≡ at + n + (p - (at + n)) = omega arith in
-      ap (λ k. getD (paste ws at s n) k 0) e
-      ∙ sym (getD-drop (at + n) (paste ws at s n) (p - (at + n)) 0)
-      ∙ ap (λ (l : List ℕ). getD l (p - (at + n)) 0) (drop-paste ws at s n (omega arith) g)
-      ∙ getD-drop (at + n) ws (p - (at + n)) 0
-      ∙ ap (λ k. getD ws k 0) (sym e)
 
 lt-other : (k j : ℕ) → (k < j → ⊥) → k ≢ j → j < k
 lt-other k j h n = by (decLt j k)

@@ -5,3 +5,4 @@ pub mod ValueLaws
 pub mod Ranges
 pub mod BetweenLaws
 pub mod Words
+pub mod WordsLaws

@@ -1,17 +1,17 @@
 -- What a lookup does to the slots, and why it answers as the search. Assumes nothing.
-use Prim.Native.Nat.{ℕ, zero, suc, _+_, _-_, _*_, _/_, _<_, _≤_, min, max}
+use Prim.Native.Nat.{ℕ, zero, suc, _+_, _-_, _*_, _<_, _≤_, min, max}
 use native.Mathlib.Omega.{arith}
-use native.Mathlib.Nat.{add-zero, add-assoc, sub-zero, zero-sub}
+use native.Mathlib.Nat.{add-zero, sub-zero, zero-sub}
 use native.Mathlib.Numerals.{add-one}
 use mathlib.Core.Path.{_≡_, refl, sym, ap, _∙_}
 use mathlib.Core.Bool.{Bool, true, false}
 use mathlib.Core.List.{List, [], _∷_, _++_, List·Memᴰ, List·Memᴰ·head, List·Memᴰ·tail, List·Memᴰ·append-cases, List·Memᴰ·cases-cons, Memᴰ·append-left, Memᴰ·append-right}
 use mathlib.Core.Logic.{_⊎_, inl, inr, ⊎-elim}
-use lib.Dec.{lit<}
-use lib.ListN.{length, getD, take, drop, length-take, length-drop, length-replicate, List·getD-append, take-append-drop}
-use lib.Seq.{paste, length-paste, length-paste-head, length-take-le, drop-paste, getD-take, getD-drop, getD-append-add}
+use lib.ListN.{length, take, drop, length-drop, length-replicate, take-append-drop}
+use lib.Seq.{length-paste, getD-drop}
 use Rattle.selectors.specs.Words.{valueAt}
 use Rattle.selectors.specs.declared.Direction.{Direction}
+use Rattle.selectors.specs.WordsLaws.{paste-before, paste-in, paste-after}
 use Rattle.policy.specs.declared.Found.{Found}
 use Rattle.policy.specs.declared.Found.the-variants.{Row, Nothing}
 use Rattle.policy.specs.Policy.{PolicyRow, matches, orderedSearch, matchFrom}
@@ -46,30 +46,6 @@ split-rows ws i (suc n) m =
     let e : suc n + m ≡ suc (n + m) = omega arith in
     let f : suc i + n ≡ i + suc n = omega arith in
     ap (rowsFrom ws i) e ∙ ap (_∷_ (rowAt ws (i * rowWords))) (split-rows ws (suc i) n m ∙ rw f)
-
--- The words after n of them from the place `at` on were replaced: before those, among them, and after them.
-module _ (ws s : List ℕ) (at n : ℕ) (h : at + n ≤ length ws) (g : n ≤ length s) where
-  paste-before : (p : ℕ) → p < at → getD (paste ws at s n) p 0 ≡ getD ws p 0
-  paste-before p l =
-      List·getD-append (take at ws ++ take n s) (drop (at + n) ws) 0 p (omega (arith, length-paste-head ws at s n (omega arith) g))
-      ∙ List·getD-append (take at ws) (take n s) 0 p (omega (arith, length-take-le at ws (omega arith)))
-      ∙ getD-take at ws p 0 l
-
-  paste-in : (x : ℕ) → x < n → getD (paste ws at s n) (at + x) 0 ≡ getD s x 0
-  paste-in x l =
-      List·getD-append (take at ws ++ take n s) (drop (at + n) ws) 0 (at + x) (omega (arith, length-paste-head ws at s n (omega arith) g))
-      ∙ ap (λ k. getD (take at ws ++ take n s) (k + x) 0) (sym (length-take-le at ws (omega arith)))
-      ∙ getD-append-add (take at ws) (take n s) x 0
-      ∙ getD-take n s x 0 l
-
-  paste-after : (p : ℕ) → at + n ≤ p → getD (paste ws at s n) p 0 ≡ getD ws p 0
-  paste-after p l =
-      let e : p ≡ at + n + (p - (at + n)) = omega arith in
-      ap (λ k. getD (paste ws at s n) k 0) e
-      ∙ sym (getD-drop (at + n) (paste ws at s n) (p - (at + n)) 0)
-      ∙ ap (λ (l : List ℕ). getD l (p - (at + n)) 0) (drop-paste ws at s n (omega arith) g)
-      ∙ getD-drop (at + n) ws (p - (at + n)) 0
-      ∙ ap (λ k. getD ws k 0) (sym e)
 
 -- The slots are filled from the first on: those in use are the first `count`, and the turn is at one of them or at the next.
 pub record Filled (c : Cache) : Type 0 where
