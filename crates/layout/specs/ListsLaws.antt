@@ -24,8 +24,7 @@ use Rattle.layout.specs.DecodeLaws.{active-matches}
 use Rattle.layout.specs.Steps.{AlikeTo, AlikeAmong, Ends}
 use Rattle.layout.specs.StepsLaws.{alike-less, each-more}
 use Rattle.layout.specs.FormLaws.{values-length, values-with, ranges-split, ranges-length, holds-append}
-use Rattle.layout.specs.Lists.{those, upFrom, listed, Within, Takes, Lists, Narrowed, AlikeListed, BranchAt, Grown}
-use Rattle.layout.specs.declared.Picked.{Picked}
+use Rattle.layout.specs.Lists.{those, upFrom, listed, Within, Takes, Lists, Narrowed, AlikeListed, BranchAt}
 use Rattle.layout.specs.declared.Branch.{Branch}
 
 -- One number more.
@@ -143,19 +142,19 @@ module _ (ws xs : List ℕ) (f from : ℕ) where
       each-more (λ i l. AlikeTo (rangeOf ws (getD xs i 0) f) from l) (λ i l l′ h a. alike-less _ from l l′ h a) from n best last last′ s t
 
 -- The listed rows of a policy that are active: they are rows of it, and values that are alike to them are alike to the listed rows.
-module _ (d : Direction) (ws : List ℕ) (f : ℕ) (before : List ℕ) (l : Picked) (t : Lists d ws f before l) where
-  pub lists-within : Within ws l
+module _ (d : Direction) (ws : List ℕ) (f : ℕ) (before list : List ℕ) (n : ℕ) (t : Lists d ws f before list n) where
+  pub lists-within : Within ws list n
   lists-within = record {
     sized = t .sized;
     fits = t .fits;
-    places = λ k h. omega (arith, takes-below _ _ (l .rows) (l .count) t k h, min-le-left (length ws / rowWords) 256);
+    places = λ k h. omega (arith, takes-below _ _ list n t k h, min-le-left (length ws / rowWords) 256);
   }
 
-  lists-alike : (from last : ℕ) → AlikeListed ws (l .rows) (l .count) f from last → AlikeAmong d ws (listed ws) f before from last
+  lists-alike : (from last : ℕ) → AlikeListed ws list n f from last → AlikeAmong d ws (listed ws) f before from last
   unfolding AlikeListed AlikeAmong
-  lists-alike from last a = takes-each _ _ (l .rows) (l .count) t (λ i. AlikeTo (rangeOf ws i f) from last) a
+  lists-alike from last a = takes-each _ _ list n t (λ i. AlikeTo (rangeOf ws i f) from last) a
 
-  pub lists-ends : (from best last : ℕ) → Ends from best last (AlikeListed ws (l .rows) (l .count) f from last)
+  pub lists-ends : (from best last : ℕ) → Ends from best last (AlikeListed ws list n f from last)
       → Ends from last last (AlikeAmong d ws (listed ws) f before from last)
   lists-ends from best last e = record { reaches = e .reaches; within = omega arith; alike = lists-alike from last (e .alike) }
 
@@ -172,8 +171,9 @@ module _ (d : Direction) (ws : List ℕ) (f : ℕ) (before : List ℕ) (e : leng
         and-true,
       ) (sym (and-assoc (appliesTo (directionOf (getD ws (i * rowWords) 0)) d) (holds (rangesFrom ws i 0 f) before) (contains (rangeOf ws i f) v)))
 
-  pub lists-next : (old l : Picked) → Lists d ws f before old → Narrowed ws f v old l → Lists d ws (f + 1) (before ++ v ∷ []) l
-  lists-next old l s t = record {
+  pub lists-next : (old : List ℕ) (m : ℕ) (list : List ℕ) (n : ℕ) → Lists d ws f before old m → Narrowed ws f v old m list n
+      → Lists d ws (f + 1) (before ++ v ∷ []) list n
+  lists-next old m list n s t = record {
     sized = t .sized;
     fits = t .fits;
     rows = t .rows ∙ ap (those _) (s .rows) ∙ sym (those-both _ _ _ active-next _);
@@ -210,33 +210,37 @@ module _ (d : Direction) (ws vs : List ℕ) where
       by true a xs ih q = let p : i ∷ xs ≡ [] = rw a at q in let z : _≡_ {A = ℕ} 0 1 = cc in absurd (omega arith)
       by false a xs ih q = rw a (ih (rw a at q))
 
-  module _ (l : Picked) (t : Lists d ws 5 vs l) where
-    pub lists-found : 0 < l .count → getD ws (getD (l .rows) 0 0 * rowWords + 1) 0 ≡ actionWord (orderedSearch d (policyRows ws) vs)
+  module _ (list : List ℕ) (n : ℕ) (t : Lists d ws 5 vs list n) where
+    pub lists-found : 0 < n → getD ws (getD list 0 0 * rowWords + 1) 0 ≡ actionWord (orderedSearch d (policyRows ws) vs)
     lists-found h =
         let xs = those (λ n. active d ws n 5 vs) (upFrom 0 (listed ws)) in
-        let n : length ws / rowWords ≡ listed ws + (length ws / rowWords - listed ws) = omega (arith, min-le-left (length ws / rowWords) 256) in
+        let m : length ws / rowWords ≡ listed ws + (length ws / rowWords - listed ws) = omega (arith, min-le-left (length ws / rowWords) 256) in
         let r : orderedSearch d (policyRows ws) vs ≡ actionOf (getD ws (getD xs 0 0 * rowWords + 1) 0) =
-        ap (λ (c : ℕ). orderedSearch d (rowsFrom ws 0 c) vs) n
-        ∙ search-found 0 (listed ws) (length ws / rowWords - listed ws) (getD xs 0 0) (drop 1 xs) (drop-cons xs 0 0 (rw (taken _ _ (l .rows) (l .count) t) h)) in
-        sym (ap actionWord r ∙ action-word (getD ws (getD xs 0 0 * rowWords + 1) 0) ∙ ap (λ (j : ℕ). getD ws (j * rowWords + 1) 0) (taken-at _ _ (l .rows) (l .count) t 0 h))
+        ap (λ (c : ℕ). orderedSearch d (rowsFrom ws 0 c) vs) m
+        ∙ search-found 0 (listed ws) (length ws / rowWords - listed ws) (getD xs 0 0) (drop 1 xs) (drop-cons xs 0 0 (rw (taken _ _ list n t) h)) in
+        sym (ap actionWord r ∙ action-word (getD ws (getD xs 0 0 * rowWords + 1) 0) ∙ ap (λ (j : ℕ). getD ws (j * rowWords + 1) 0) (taken-at _ _ list n t 0 h))
 
-    pub lists-none : l .count ≡ 0 → length ws / rowWords ≤ 256 → 0 ≡ actionWord (orderedSearch d (policyRows ws) vs)
+    pub lists-none : n ≡ 0 → length ws / rowWords ≤ 256 → 0 ≡ actionWord (orderedSearch d (policyRows ws) vs)
     lists-none e h =
-        let n : listed ws ≡ length ws / rowWords = min-eq-left h in
-        sym (ap actionWord (search-none 0 (length ws / rowWords) (rw n at (sym (rw e at (t .rows))))))
+        let m : listed ws ≡ length ws / rowWords = min-eq-left h in
+        sym (ap actionWord (search-none 0 (length ws / rowWords) (rw m at (sym (rw e at (t .rows))))))
 
 -- A branch with a value more is one at the next field, and one without values is one at the first field.
 module _ (d : Direction) (first second : List ℕ) where
-  pub branch-next : (f : ℕ) (v : Value) (old b : Branch) → f < 5 → BranchAt d first second f old → Grown first second f v old b → BranchAt d first second (f + 1) b
-  branch-next f v old b h s t =
+  pub branch-next : (f : ℕ) (v : Value) (old b : Branch) (xs ys xs′ ys′ : List ℕ) → f < 5 → BranchAt d first second f old xs ys
+      → b .point .words ≡ set (set (old .point .words) (2 * f) (v .upper)) (2 * f + 1) (v .lower)
+      → Narrowed first f (number v) xs (old .firsts) xs′ (b .firsts) → Narrowed second f (number v) ys (old .seconds) ys′ (b .seconds)
+      → BranchAt d first second (f + 1) b xs′ ys′
+  branch-next f v old b xs ys xs′ ys′ h s w p q =
       let e : valuesFrom (b .point .words) 0 (f + 1) ≡ valuesFrom (old .point .words) 0 f ++ number v ∷ [] =
-      ap (λ (ps : List ℕ). valuesFrom ps 0 (f + 1)) (t .words) ∙ values-with (old .point .words) f v (omega (arith, s .sized)) in
+      ap (λ (ps : List ℕ). valuesFrom ps 0 (f + 1)) w ∙ values-with (old .point .words) f v (omega (arith, s .sized)) in
       record {
-        sized = rw (t .words, length-set, length-set) (s .sized);
-        of-first = rw e (lists-next d first f _ (values-length _ 0 f) (number v) (old .first) (b .first) (s .of-first) (t .of-first));
-        of-second = rw e (lists-next d second f _ (values-length _ 0 f) (number v) (old .second) (b .second) (s .of-second) (t .of-second));
+        sized = rw (w, length-set, length-set) (s .sized);
+        of-first = rw e (lists-next d first f _ (values-length _ 0 f) (number v) xs _ xs′ _ (s .of-first) p);
+        of-second = rw e (lists-next d second f _ (values-length _ 0 f) (number v) ys _ ys′ _ (s .of-second) q);
       }
 
-  pub branch-start : (b : Branch) → length (b .point .words) ≡ 10 → Lists d first 0 [] (b .first) → Lists d second 0 [] (b .second) → BranchAt d first second 0 b
+  pub branch-start : (b : Branch) (xs ys : List ℕ) → length (b .point .words) ≡ 10 → Lists d first 0 [] xs (b .firsts) → Lists d second 0 [] ys (b .seconds)
+      → BranchAt d first second 0 b xs ys
   unfolding valuesFrom
-  branch-start b e s t = record { sized = e; of-first = s; of-second = t }
+  branch-start b xs ys e s t = record { sized = e; of-first = s; of-second = t }

@@ -14,7 +14,7 @@ ghost use Rattle.policy.specs.Policy.{orderedSearch};
 ghost use Rattle.policy.specs.Words.{policyRows, actionWord};
 ghost use Rattle.layout.specs.Decode.{valuesFrom, rangeOf, rangesFrom, active as isActive, partRow, partRows};
 ghost use Rattle.layout.specs.Laid.{sizesOf, Outcome};
-ghost use Rattle.layout.specs.Lists.{Lists, Within, Narrowed, AlikeListed, BranchAt, Grown};
+ghost use Rattle.layout.specs.Lists.{Lists, Within, Narrowed, AlikeListed, BranchAt};
 ghost use Rattle.layout.specs.Parting.{differenceForm};
 ghost use Rattle.layout.specs.Steps.{Ends, AlikeTo, AlikeIn, Put, Stamped, Placed, LaidOut, fieldForm, valueForm, wordsFor};
 use policy::Found;
@@ -49,17 +49,11 @@ struct Task {
     limit: usize,
 }
 
-// Some of the first MOST rows of a policy, by their places in it.
-struct Picked {
-    rows: [u16; 256],
-    count: usize,
-}
-
-// A point, and the rows of both policies that hold its values so far.
+// A point, and how many rows of each policy hold its values so far. Beside it the lists of these rows are lent, by their places.
 struct Branch {
     point: Point,
-    first: Picked,
-    second: Picked,
+    firsts: usize,
+    seconds: usize,
 }
 
 // The rows from `last` to `next` are those of the last interval, which begins at the value `low`; those before it are done.
@@ -172,13 +166,13 @@ fn listable(total: usize) -> usize
     MOST
 }
 
-// The rows for the direction.
-fn rows_for(rows: &[u64], direction: Direction) -> Picked
-    ensures { λ r. ⌜ Lists direction (now (rows .entry)) 0 [] r ⌝ }
+// Lists the rows for the direction, and counts them.
+fn rows_for(rows: &[u64], direction: Direction, list: &mut [u16; 256]) -> usize
+    requires { ⌜ length (now list) ≡ 256 ⌝ }
+    ensures { λ r. ⌜ Lists direction (now (rows .entry)) 0 [] (now (list .exit)) r ⌝ }
 {
     let nowhere = [0u64; 10];
     let total = listable(rows.len() / ROW_WORDS);
-    let mut list = [0u16; 256];
     let mut count: usize = 0;
     let mut row: usize = 0;
     while row < total {
@@ -188,17 +182,22 @@ fn rows_for(rows: &[u64], direction: Direction) -> Picked
         }
         row += 1;
     }
-    Picked { rows: list, count }
+    count
 }
 
-// Those of the picked rows whose ranges of the field hold the value.
-fn narrowed(rows: &[u64], picked: Picked, field: usize, value: Value) -> Picked
-    requires { ⌜ (field < 5) × Within (now rows) picked ⌝ }
-    ensures { λ r. ⌜ Narrowed (now (rows .entry)) field (number value) picked r ⌝ }
+// Lists those of the first `total` listed rows whose ranges of the field hold the value, and counts them.
+fn narrow(
+    rows: &[u64],
+    old: &[u16; 256],
+    total: usize,
+    field: usize,
+    value: Value,
+    list: &mut [u16; 256],
+) -> usize
+    requires { ⌜ (field < 5) × Within (now rows) (now old) total ⌝ }
+    requires { ⌜ length (now list) ≡ 256 ⌝ }
+    ensures { λ r. ⌜ Narrowed (now (rows .entry)) field (number value) (now (old .entry)) total (now (list .exit)) r ⌝ }
 {
-    let old = picked.rows;
-    let total = picked.count;
-    let mut list = [0u16; 256];
     let mut count: usize = 0;
     let mut i: usize = 0;
     while i < total {
@@ -209,16 +208,22 @@ fn narrowed(rows: &[u64], picked: Picked, field: usize, value: Value) -> Picked
         }
         i += 1;
     }
-    Picked { rows: list, count }
+    count
 }
 
-// The word of the action that the ordered search finds at the point, whose values the picked rows hold.
-fn action_at(rows: &[u64], direction: Direction, point: Point, picked: Picked) -> u64
-    requires { ⌜ Lists direction (now rows) 5 (valuesFrom (point .words) 0 5) picked ⌝ }
+// The word of the action that the ordered search finds at the point, whose values the listed rows hold.
+fn action_at(
+    rows: &[u64],
+    direction: Direction,
+    point: Point,
+    list: &[u16; 256],
+    count: usize,
+) -> u64
+    requires { ⌜ Lists direction (now rows) 5 (valuesFrom (point .words) 0 5) (now list) count ⌝ }
     ensures { λ r. ⌜ r ≡ actionWord (orderedSearch direction (policyRows (now (rows .entry))) (valuesFrom (point .words) 0 5)) ⌝ }
 {
-    if 0 < picked.count {
-        return rows[wide(picked.rows[0]) * ROW_WORDS + 1];
+    if 0 < count {
+        return rows[wide(list[0]) * ROW_WORDS + 1];
     }
     if rows.len() / ROW_WORDS <= MOST {
         return 0;
@@ -290,13 +295,18 @@ fn row_end(
     end
 }
 
-// The same for the picked rows.
-fn end_listed(rows: &[u64], picked: Picked, field: usize, from: Value, best: Value) -> Value
-    requires { ⌜ (field < 5) × (Within (now rows) picked × (number from ≤ number best)) ⌝ }
-    ensures { λ r. ⌜ Ends (number from) (number best) (number r) (AlikeListed (now (rows .entry)) (picked .rows) (picked .count) field (number from) (number r)) ⌝ }
+// The same for the listed rows.
+fn end_listed(
+    rows: &[u64],
+    list: &[u16; 256],
+    count: usize,
+    field: usize,
+    from: Value,
+    best: Value,
+) -> Value
+    requires { ⌜ (field < 5) × (Within (now rows) (now list) count × (number from ≤ number best)) ⌝ }
+    ensures { λ r. ⌜ Ends (number from) (number best) (number r) (AlikeListed (now (rows .entry)) (now (list .entry)) count field (number from) (number r)) ⌝ }
 {
-    let list = picked.rows;
-    let count = picked.count;
     let mut end = best;
     let mut i: usize = 0;
     while i < count {
@@ -311,18 +321,19 @@ fn end_among(
     rows: &[u64],
     direction: Direction,
     point: Point,
-    picked: Picked,
+    list: &[u16; 256],
+    listed: usize,
     field: usize,
     from: Value,
     best: Value,
 ) -> Value
     requires { ⌜ (field < 5) × (number from ≤ number best) ⌝ }
-    requires { ⌜ Lists direction (now rows) field (valuesFrom (point .words) 0 field) picked ⌝ }
+    requires { ⌜ Lists direction (now rows) field (valuesFrom (point .words) 0 field) (now list) listed ⌝ }
     ensures { λ r. ⌜ Ends (number from) (number best) (number r) (AlikeIn direction (now (rows .entry)) point field (number from) (number r)) ⌝ }
 {
     let words = point.words;
     let count = rows.len() / ROW_WORDS;
-    let mut end = end_listed(rows, picked, field, from, best);
+    let mut end = end_listed(rows, list, listed, field, from, best);
     let mut row = listable(count);
     while row < count {
         end = row_end(rows, row, direction, &words, field, from, end);
@@ -447,14 +458,22 @@ fn place(room: &mut [u64], kept: Kept, count: usize, field: usize, from: Value) 
 }
 
 // Behind the last field stands the leaf, if the two policies part there.
-fn leaf(first: &[u64], second: &[u64], task: Task, branch: Branch, room: &mut [u64]) -> Laid
-    requires { ⌜ (task .limit * 22 ≤ length (now room)) × BranchAt (task .direction) (now first) (now second) 5 branch ⌝ }
+fn leaf(
+    first: &[u64],
+    second: &[u64],
+    task: Task,
+    branch: Branch,
+    of_first: &[u16; 256],
+    of_second: &[u16; 256],
+    room: &mut [u64],
+) -> Laid
+    requires { ⌜ (task .limit * 22 ≤ length (now room)) × BranchAt (task .direction) (now first) (now second) 5 branch (now «of_first») (now «of_second») ⌝ }
     ensures { λ r. ⌜ LaidOut (task .limit) 5 0 (fieldForm (now (first .entry)) (now (second .entry)) task (branch .point) 5) (now (room .exit)) r ⌝ }
 {
     let direction = task.direction;
     let point = branch.point;
-    let action = action_at(first, direction, point, branch.first);
-    let other = action_at(second, direction, point, branch.second);
+    let action = action_at(first, direction, point, of_first, branch.firsts);
+    let other = action_at(second, direction, point, of_second, branch.seconds);
     if action == other {
         return Laid::Rows(0);
     }
@@ -472,32 +491,37 @@ fn interval_end(
     second: &[u64],
     direction: Direction,
     branch: Branch,
+    of_first: &[u16; 256],
+    of_second: &[u16; 256],
     field: usize,
     from: Value,
     top: Value,
 ) -> Value
     requires { ⌜ (field < 5) × (number from ≤ number top) ⌝ }
-    requires { ⌜ BranchAt direction (now first) (now second) field branch ⌝ }
+    requires { ⌜ BranchAt direction (now first) (now second) field branch (now «of_first») (now «of_second») ⌝ }
     ensures { λ r. ⌜ Ends (number from) (number top) (number r) (AlikeIn direction (now (first .entry)) (branch .point) field (number from) (number r) × AlikeIn direction (now (second .entry)) (branch .point) field (number from) (number r)) ⌝ }
 {
     let point = branch.point;
-    let best = end_among(first, direction, point, branch.first, field, from, top);
-    end_among(second, direction, point, branch.second, field, from, best)
-}
-
-// The branch at a value of the field.
-fn branch_at(first: &[u64], second: &[u64], branch: Branch, field: usize, value: Value) -> Branch
-    requires { ⌜ (field < 5) × (Within (now first) (branch .first) × Within (now second) (branch .second)) ⌝ }
-    ensures { λ r. ⌜ Grown (now (first .entry)) (now (second .entry)) field value branch r ⌝ }
-{
-    let point = with_value(branch.point, field, value);
-    let of_first = narrowed(first, branch.first, field, value);
-    let of_second = narrowed(second, branch.second, field, value);
-    Branch {
+    let best = end_among(
+        first,
+        direction,
         point,
-        first: of_first,
-        second: of_second,
-    }
+        of_first,
+        branch.firsts,
+        field,
+        from,
+        top,
+    );
+    end_among(
+        second,
+        direction,
+        point,
+        of_second,
+        branch.seconds,
+        field,
+        from,
+        best,
+    )
 }
 
 // Lays out what follows the field at its value `from`: the next field, or the leaf where none is left.
@@ -506,20 +530,47 @@ fn layout_stretch(
     second: &[u64],
     task: Task,
     branch: Branch,
+    of_first: &[u16; 256],
+    of_second: &[u16; 256],
     field: usize,
     from: Value,
     room: &mut [u64],
 ) -> Laid
-    requires { ⌜ (field < 5) × BranchAt (task .direction) (now first) (now second) field branch ⌝ }
+    requires { ⌜ (field < 5) × BranchAt (task .direction) (now first) (now second) field branch (now «of_first») (now «of_second») ⌝ }
     requires { ⌜ wordsFor (task .limit) (5 - (field + 1)) ≤ length (now room) ⌝ }
     ensures { λ r. ⌜ LaidOut (task .limit) (field + 1) (5 - (field + 1)) (valueForm (now (first .entry)) (now (second .entry)) task (branch .point) field (number from)) (now (room .exit)) r ⌝ }
 {
-    let here = branch_at(first, second, branch, field, from);
+    let mut in_first = [0u16; 256];
+    let mut in_second = [0u16; 256];
+    let point = with_value(branch.point, field, from);
+    let firsts = narrow(first, of_first, branch.firsts, field, from, &mut in_first);
+    let seconds = narrow(
+        second,
+        of_second,
+        branch.seconds,
+        field,
+        from,
+        &mut in_second,
+    );
+    let here = Branch {
+        point,
+        firsts,
+        seconds,
+    };
     let inner = field + 1;
     if inner == FIELDS {
-        return leaf(first, second, task, here, room);
+        return leaf(first, second, task, here, &in_first, &in_second, room);
     }
-    layout_field(first, second, task, here, inner, room)
+    layout_field(
+        first,
+        second,
+        task,
+        here,
+        &in_first,
+        &in_second,
+        inner,
+        room,
+    )
 }
 
 // Lays out the field and those after it, behind the values of the branch in the fields before it: from interval to interval, each of which
@@ -529,10 +580,12 @@ fn layout_field(
     second: &[u64],
     task: Task,
     branch: Branch,
+    of_first: &[u16; 256],
+    of_second: &[u16; 256],
     field: usize,
     room: &mut [u64],
 ) -> Laid
-    requires { ⌜ (field < 5) × BranchAt (task .direction) (now first) (now second) field branch ⌝ }
+    requires { ⌜ (field < 5) × BranchAt (task .direction) (now first) (now second) field branch (now «of_first») (now «of_second») ⌝ }
     requires { ⌜ wordsFor (task .limit) (5 - field) ≤ length (now room) ⌝ }
     ensures { λ r. ⌜ LaidOut (task .limit) field (5 - field) (fieldForm (now (first .entry)) (now (second .entry)) task (branch .point) field) (now (room .exit)) r ⌝ }
 {
@@ -546,9 +599,29 @@ fn layout_field(
     };
     let mut from = ZERO;
     loop {
-        let end = interval_end(first, second, direction, branch, field, from, top);
+        let end = interval_end(
+            first,
+            second,
+            direction,
+            branch,
+            of_first,
+            of_second,
+            field,
+            from,
+            top,
+        );
         let base = kept.next * ROW_WORDS;
-        let laid = layout_stretch(first, second, task, branch, field, from, &mut room[base..]);
+        let laid = layout_stretch(
+            first,
+            second,
+            task,
+            branch,
+            of_first,
+            of_second,
+            field,
+            from,
+            &mut room[base..],
+        );
         let Laid::Rows(count) = laid else {
             return Laid::Over;
         };
@@ -581,17 +654,19 @@ pub fn layout(
     if room.len() / ROOM_WORDS < limit {
         return Laid::NoRoom;
     }
-    let of_first = rows_for(first, direction);
-    let of_second = rows_for(second, direction);
+    let mut of_first = [0u16; 256];
+    let mut of_second = [0u16; 256];
+    let firsts = rows_for(first, direction, &mut of_first);
+    let seconds = rows_for(second, direction, &mut of_second);
     let branch = Branch {
         point: Point { words: [0; 10] },
-        first: of_first,
-        second: of_second,
+        firsts,
+        seconds,
     };
     let task = Task {
         direction,
         highest,
         limit,
     };
-    layout_field(first, second, task, branch, 0, room)
+    layout_field(first, second, task, branch, &of_first, &of_second, 0, room)
 }

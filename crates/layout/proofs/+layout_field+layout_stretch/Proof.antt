@@ -31,45 +31,46 @@ use Rattle.layout.proofs.+layout_field+layout_stretch.Lts-layout_field 
 use Rattle.layout.proofs.layout_stretch.Reads as layout-stretch
 use Rattle.layout.proofs.layout_stretch.Kinds as layout-stretch-kinds
 use Rattle.layout.proofs.+layout_field+layout_stretch.Lts-layout_stretch as layout-stretch-lts
-use Rattle.layout.proofs.branch_at.Reads as branch-at-reads
 use Rattle.layout.proofs.interval_end.Reads as interval-end-reads
 use Rattle.layout.proofs.leaf.Reads as leaf-reads
+use Rattle.layout.proofs.narrow.Reads as narrow-reads
 use Rattle.layout.proofs.place.Reads as place-reads
 use Rattle.layout.proofs.point_value.Reads as point-value-reads
 use Rattle.layout.proofs.stamp.Reads as stamp-reads
+use Rattle.layout.proofs.with_value.Reads as with-value-reads
 
-abbrev μ-layout-field : Measures 3 layout-field-kinds.ps ℕ
-μ-layout-field κs a = 11 - 2 * a .1 .1 .1 .1 .0
+abbrev μ-layout-field : Measures 5 layout-field-kinds.ps ℕ
+μ-layout-field κs a = 11 - 2 * a .1 .1 .1 .1 .1 .1 .0
 
-abbrev μ-layout-stretch : Measures 3 layout-stretch-kinds.ps ℕ
-μ-layout-stretch κs a = 10 - 2 * a .1 .1 .1 .1 .0
+abbrev μ-layout-stretch : Measures 5 layout-stretch-kinds.ps ℕ
+μ-layout-stretch κs a = 10 - 2 * a .1 .1 .1 .1 .1 .1 .0
 
-abbrev layout-field-at : ℕ → In 3 layout-field-kinds.ps
+abbrev layout-field-at : ℕ → In 5 layout-field-kinds.ps
 layout-field-at t =
-    and 3 layout-field-kinds.ps (is 3 layout-field-kinds.ps μ-layout-field t) layout-field.Pre
+    and 5 layout-field-kinds.ps (is 5 layout-field-kinds.ps μ-layout-field t) layout-field.Pre
 
-abbrev layout-field-below : ℕ → In 3 layout-field-kinds.ps
+abbrev layout-field-below : ℕ → In 5 layout-field-kinds.ps
 layout-field-below t =
     and
-    3
+    5
     layout-field-kinds.ps
-    (falls 3 layout-field-kinds.ps _<_ μ-layout-field t)
+    (falls 5 layout-field-kinds.ps _<_ μ-layout-field t)
     layout-field.Pre
 
-abbrev layout-stretch-at : ℕ → In 3 layout-stretch-kinds.ps
+abbrev layout-stretch-at : ℕ → In 5 layout-stretch-kinds.ps
 layout-stretch-at t =
     and
-    3
+    5
     layout-stretch-kinds.ps
-    (is 3 layout-stretch-kinds.ps μ-layout-stretch t)
+    (is 5 layout-stretch-kinds.ps μ-layout-stretch t)
     layout-stretch.Pre
 
-abbrev layout-stretch-below : ℕ → In 3 layout-stretch-kinds.ps
+abbrev layout-stretch-below : ℕ → In 5 layout-stretch-kinds.ps
 layout-stretch-below t =
     and
-    3
+    5
     layout-stretch-kinds.ps
-    (falls 3 layout-stretch-kinds.ps _<_ μ-layout-stretch t)
+    (falls 5 layout-stretch-kinds.ps _<_ μ-layout-stretch t)
     layout-stretch.Pre
 
 -- What the functions that each one calls ask and tell.
@@ -93,8 +94,10 @@ layout-field-claims t = (
 
 abbrev layout-stretch-claims : ℕ → layout-stretch-lts.Claims
 layout-stretch-claims t = (
-  branch-at-reads.Asked,
-  branch-at-reads.Learnt,
+  with-value-reads.Asked,
+  with-value-reads.Learnt,
+  narrow-reads.Asked,
+  narrow-reads.Learnt,
   leaf-reads.Asked,
   leaf-reads.Learnt,
   layout-field-below t,
@@ -102,13 +105,13 @@ layout-stretch-claims t = (
 )
 
 abbrev layout-field-Inv-loop : layout-field-lts.InvT-loop
-layout-field-Inv-loop first second task branch field room₀ direction top kept₀ from₀ room kept from =
+layout-field-Inv-loop first second task branch of-first of-second field room₀ direction top kept₀ from₀ room kept from =
     (length room ≡ length room₀)
     × ((kept .next ≤ task .limit)
     × ((number from ≤ number top) × Progress first second task (valuesFrom (branch .point .words) 0 field) field room kept (number from)))
 
 abbrev layout-field-μ-loop : layout-field-lts.MeasureT-loop
-layout-field-μ-loop first second task branch field room₀ direction top kept₀ from₀ room kept from =
+layout-field-μ-loop first second task branch of-first of-second field room₀ direction top kept₀ from₀ room kept from =
     number top - number from
 
 -- The places of a turn: where it begins, and after the calls.
@@ -130,12 +133,12 @@ room t c = let s = c .before .before .before .before .before .before .before in 
 
 -- The room is as long as before when that part is back.
 back : (t : ℕ) (c : Stretched t)
-    → length (putMid (c .before .before .before .before .loop .kept .next * 22) (length (c .before .before .before .before .loop .room) - c .before .before .before .before .loop .kept .next * 22) (c .before .before .before .before .loop .room) (c .layout-stretch .last .1 .1 .1 .1 .1 .1 .0))
+    → length (putMid (c .before .before .before .before .loop .kept .next * 22) (length (c .before .before .before .before .loop .room) - c .before .before .before .before .loop .kept .next * 22) (c .before .before .before .before .loop .room) (c .layout-stretch .last .1 .1 .1 .1 .1 .1 .1 .1 .0))
     ≡ length (c .before .before .before .before .loop .room)
 back t c =
     let l = c .before .before .before .before .loop in
-    same-len-mid (l .kept .next * 22) (length (l .room) - l .kept .next * 22) (l .room) (c .layout-stretch .last .1 .1 .1 .1 .1 .1 .0)
-    (c .layout-stretch .kept .1 .1 .1 .1 .1 .1 .0)
+    same-len-mid (l .kept .next * 22) (length (l .room) - l .kept .next * 22) (l .room) (c .layout-stretch .last .1 .1 .1 .1 .1 .1 .1 .1 .0)
+    (c .layout-stretch .kept .1 .1 .1 .1 .1 .1 .1 .1 .0)
 
 -- After `place` the loop has come to the value behind the interval.
 placed : (t : ℕ) (c : Placed t)
@@ -149,7 +152,7 @@ placed t c =
     let s = l .before .before .before .before .before .before .before in
     let r = room t l in
     turn-lent _ _ _ _ _ (s .pre .1 .0 .0) (values-length _ 0 _) _ _ (e .reaches) (e .alike) _ _ _ _ _ _ (s .args .task .limit) _ (l .loop .inv .1 .1 .1) (omega arith)
-    (rw (y .layout-stretch .kept .1 .1 .1 .1 .1 .1 .0) (r .enough)) _ (c .before .before .before .laid .given .1) (y .layout-stretch .ensures) (c .place .ensures)
+    (rw (y .layout-stretch .kept .1 .1 .1 .1 .1 .1 .1 .1 .0) (r .enough)) _ (c .before .before .before .laid .given .1) (y .layout-stretch .ensures) (c .place .ensures)
 
 -- The next turn's first value is one more than the interval's last, which is below the field's highest.
 further : (t : ℕ) (c : Gone t)
@@ -175,10 +178,10 @@ layout-field-interval-end-requires t c κs =
     let s = c .before .before .before .before .before .before .before in ((s .pre .1 .0 .0, c .loop .inv .1 .1 .0), s .pre .1 .0 .1)
 
 layout-field-mul-base : (t : ℕ) → layout-field-lts.Need-mul-base (layout-field-claims t) (layout-field-at t) layout-field.Post layout-field-Inv-loop layout-field-μ-loop
-layout-field-mul-base t c = let r = room t (c .before .before) in omega arith
+layout-field-mul-base t c = let l = c .before .before in omega (arith, room t l .start, l .loop .inv .0, l .before .before .before .before .before .before .before .good .1 .1 .1 .1 .1 .1 .1 .0 .0)
 
 layout-field-mul-layout-stretch : (t : ℕ) → layout-field-lts.Need-mul-layout-stretch (layout-field-claims t) (layout-field-at t) layout-field.Post layout-field-Inv-loop layout-field-μ-loop
-layout-field-mul-layout-stretch t c = let r = room t (c .before .before) in omega arith
+layout-field-mul-layout-stretch t c = let l = c .before .before in omega (arith, room t l .start, l .loop .inv .0, l .before .before .before .before .before .before .before .good .1 .1 .1 .1 .1 .1 .1 .0 .1)
 
 layout-field-sub-layout-stretch : (t : ℕ) → layout-field-lts.Need-sub-layout-stretch (layout-field-claims t) (layout-field-at t) layout-field.Post layout-field-Inv-loop layout-field-μ-loop
 layout-field-sub-layout-stretch t c = let r = room t (c .before .before) in omega arith
@@ -263,46 +266,57 @@ layout-field-loop-again t c =
     let p = c .before .before .before .before .before .before .before in
     (p .place .kept .0 ∙ back t (p .before .before .before .before .before .before .before) ∙ p .before .before .before .before .before .before .before .before .before .before .before .loop .inv .0, (c .before .before .before .if1 .left, (omega arith, rw (f .0) (placed t p))))
 
--- Where the stretch is: its place behind the branch.
-abbrev Branched : ℕ → Type 0
-Branched t = layout-stretch-lts.After-branch-at (layout-stretch-claims t) (layout-stretch-at t) layout-stretch.Post
+layout-stretch-with-value-requires : (t : ℕ) → layout-stretch-lts.Need-with-value-requires (layout-stretch-claims t) (layout-stretch-at t) layout-stretch.Post
+layout-stretch-with-value-requires t c κs = search needs
 
--- The branch behind the value is one at the next field.
-behind : (t : ℕ) (c : Branched t)
-    → (let s = c .before .before .before .before in
-    BranchAt (s .args .task .direction) (now (s .args .first)) (now (s .args .second)) (s .args .field + 1) (c .branch-at .result))
-behind t c = let s = c .before .before .before .before in branch-next _ _ _ _ _ _ _ (s .pre .1 .0 .0) (s .pre .1 .0 .1) (c .branch-at .ensures)
+layout-stretch-narrow-requires : (t : ℕ) → layout-stretch-lts.Need-narrow-requires (layout-stretch-claims t) (layout-stretch-at t) layout-stretch.Post
+layout-stretch-narrow-requires t c κs = let b = c .before .before .before .before .before .pre .1 .0 in ((b .0, lists-within _ _ _ _ _ _ (b .1 .of-first)), refl)
 
-layout-stretch-branch-at-requires : (t : ℕ) → layout-stretch-lts.Need-branch-at-requires (layout-stretch-claims t) (layout-stretch-at t) layout-stretch.Post
-layout-stretch-branch-at-requires t c κs =
-    let b = c .before .before .before .pre .1 .0 in (b .0, (lists-within _ _ _ _ _ (b .1 .of-first), lists-within _ _ _ _ _ (b .1 .of-second)))
+layout-stretch-narrow-requires-2 : (t : ℕ) → layout-stretch-lts.Need-narrow-requires-2 (layout-stretch-claims t) (layout-stretch-at t) layout-stretch.Post
+layout-stretch-narrow-requires-2 t c κs = let b = c .before .before .before .before .before .before .before .pre .1 .0 in ((b .0, lists-within _ _ _ _ _ _ (b .1 .of-second)), refl)
+
+-- Where both lists are narrowed: the branch is one at the next field.
+abbrev Narrowed : ℕ → Type 0
+Narrowed t = layout-stretch-lts.After-narrow2 (layout-stretch-claims t) (layout-stretch-at t) layout-stretch.Post
+
+behind : (t : ℕ) (c : Narrowed t)
+    → (let s = c .before .before .before .before .before .before .before .before in
+    BranchAt (s .args .task .direction) (now (s .args .first)) (now (s .args .second)) (s .args .field + 1)
+    (record { point = c .before .before .before .before .with-value .result; firsts = c .before .before .narrow .result; seconds = c .narrow2 .result })
+    (c .before .before .narrow .last .1 .1 .1 .1 .1 .0) (c .narrow2 .last .1 .1 .1 .1 .1 .0))
+behind t c = let s = c .before .before .before .before .before .before .before .before in
+    branch-next _ _ _ _ _ (s .args .branch) _ _ _ _ _ (s .pre .1 .0 .0) (s .pre .1 .0 .1) (c .before .before .before .before .with-value .ensures) (c .before .before .narrow .ensures) (c .narrow2 .ensures)
 
 layout-stretch-add-inner : (t : ℕ) → layout-stretch-lts.Need-add-inner (layout-stretch-claims t) (layout-stretch-at t) layout-stretch.Post
 layout-stretch-add-inner t c = search needs
 
 layout-stretch-leaf-requires : (t : ℕ) → layout-stretch-lts.Need-leaf-requires (layout-stretch-claims t) (layout-stretch-at t) layout-stretch.Post
 layout-stretch-leaf-requires t c κs =
-    let s = c .before .before .before .before .before .before in
+    let n = c .before .before .before .before in
+    let s = n .before .before .before .before .before .before .before .before in
     let w = words-next (s .args .task .limit) (s .args .field) (s .pre .1 .0 .0) in
-    (omega arith, rw (c .before .if1 .taken) at (behind t (c .before .before)))
+    (omega (arith, s .pre .1 .1), rw (c .before .before .before .if1 .taken) at (behind t n))
 
 layout-stretch-same-length : (t : ℕ) → layout-stretch-lts.Need-same-length (layout-stretch-claims t) (layout-stretch-at t) layout-stretch.Post
 layout-stretch-same-length t c = search needs
 
 layout-stretch-returns : (t : ℕ) → layout-stretch-lts.Need-returns (layout-stretch-claims t) (layout-stretch-at t) layout-stretch.Post
-layout-stretch-returns t c = let s = c .before .before .before .before .before .before .before .before .before in
-    laid-last _ _ (s .args .task) _ _ _ _ (s .pre .1 .0 .1 .sized) (s .pre .1 .0 .0) (c .before .before .before .before .before .branch-at .ensures .words) _ _ _ (c .before .before .before .before .if1 .taken) (c .before .before .leaf .ensures)
+layout-stretch-returns t c = let n = c .before .before .before .before .before .before .before in
+    let s = n .before .before .before .before .before .before .before .before in
+    laid-last _ _ (s .args .task) _ _ _ _ (s .pre .1 .0 .1 .sized) (s .pre .1 .0 .0) (n .before .before .before .before .with-value .ensures) _ _ _ (c .before .before .before .before .before .before .if1 .taken) (c .before .before .leaf .ensures)
 
 layout-stretch-layout-field-requires : (t : ℕ) → layout-stretch-lts.Need-layout-field-requires (layout-stretch-claims t) (layout-stretch-at t) layout-stretch.Post
-layout-stretch-layout-field-requires t c κs = let s = c .before .before .before .before .before .before in
-    (omega (arith, s .pre .0, s .pre .1 .0 .0), ((omega (arith, s .pre .1 .0 .0, c .before .if1 .left), behind t (c .before .before)), search needs))
+layout-stretch-layout-field-requires t c κs = let n = c .before .before .before .before in
+    let s = n .before .before .before .before .before .before .before .before in
+    (omega (arith, s .pre .0, s .pre .1 .0 .0), ((omega (arith, s .pre .1 .0 .0, c .before .before .before .if1 .left), behind t n), s .pre .1 .1))
 
 layout-stretch-same-length-2 : (t : ℕ) → layout-stretch-lts.Need-same-length-2 (layout-stretch-claims t) (layout-stretch-at t) layout-stretch.Post
 layout-stretch-same-length-2 t c = search needs
 
 layout-stretch-returns-2 : (t : ℕ) → layout-stretch-lts.Need-returns-2 (layout-stretch-claims t) (layout-stretch-at t) layout-stretch.Post
-layout-stretch-returns-2 t c = let s = c .before .before .before .before .before .before .before .before .before in
-    laid-field _ _ (s .args .task) _ _ _ _ (s .pre .1 .0 .1 .sized) (s .pre .1 .0 .0) (c .before .before .before .before .before .branch-at .ensures .words) _ _ _ (c .before .before .layout-field .ensures)
+layout-stretch-returns-2 t c = let n = c .before .before .before .before .before .before .before in
+    let s = n .before .before .before .before .before .before .before .before in
+    laid-field _ _ (s .args .task) _ _ _ _ (s .pre .1 .0 .1 .sized) (s .pre .1 .0 .0) (n .before .before .before .before .with-value .ensures) _ _ _ (c .before .before .layout-field .ensures)
 
 pub +layout-field+layout-stretch-spec : {M : Type 1} → statement M
 +layout-field+layout-stretch-spec =
@@ -334,7 +348,9 @@ pub +layout-field+layout-stretch-spec : {M : Type 1} → statement M
     (layout-field-loop-again t))
     λ t. layout-stretch-lts.spec (layout-stretch-claims t) (layout-stretch-at t)
     layout-stretch.Post
-    (layout-stretch-branch-at-requires t)
+    (layout-stretch-with-value-requires t)
+    (layout-stretch-narrow-requires t)
+    (layout-stretch-narrow-requires-2 t)
     (layout-stretch-add-inner t)
     (layout-stretch-leaf-requires t)
     (layout-stretch-same-length t)

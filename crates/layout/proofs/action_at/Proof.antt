@@ -1,4 +1,4 @@
--- `layout::action_at` meets its contract: the action of the first row picked; without one, and where all rows are listed, discard; else the
+-- `layout::action_at` meets its contract: the action of the first listed row; without one, and where all rows are listed, discard; else the
 -- action of the first match. Assumes nothing.
 use Prim.Native.Nat.{_<_, _/_}
 use native.Mathlib.Omega.{arith}
@@ -13,11 +13,11 @@ use borrow.Author.Needs.{needs}
 use Rattle.layout.proofs.action_at.Statement.{statement}
 use Rattle.layout.proofs.action_at.Tie as tie
 
--- The first row picked is one of the rows, and so is a match.
-picked-row : (c : tie.After-wide) → c .wide .result < length (now (c .before .before .before .before .args .rows)) / 22
-picked-row c =
+-- The first listed row is one of the rows, and so is a match.
+listed-row : (c : tie.After-wide) → c .wide .result < length (now (c .before .before .before .before .args .rows)) / 22
+listed-row c =
     let s = c .before .before .before .before in
-    omega (arith, c .wide .ensures, lists-within _ _ _ _ _ (s .pre) .places 0 (c .before .before .if1 .taken))
+    omega (arith, c .wide .ensures, lists-within _ _ _ _ _ _ (s .pre) .places 0 (c .before .before .if1 .taken))
 
 found-row : (c : tie.After-known-told) → c .before .found .given .0 .0 < length (now (c .before .before .before .before .before .before .before .before .args .rows)) / 22
 found-row c =
@@ -34,23 +34,23 @@ wide-requires : tie.Need-wide-requires
 wide-requires c κs = search needs
 
 mul-result : tie.Need-mul-result
-mul-result c = let h = picked-row c in search needs
+mul-result c = let h = listed-row c in search needs
 
 add-result : tie.Need-add-result
-add-result c = let h = picked-row c in search needs
+add-result c = let h = listed-row c in search needs
 
 mul-result-2 : tie.Need-mul-result-2
-mul-result-2 c = let h = picked-row c in search needs
+mul-result-2 c = let h = listed-row c in search needs
 
 shared-slice-read-result : tie.Need-shared-slice-read-result
-shared-slice-read-result c = let h = picked-row (c .before) in search needs
+shared-slice-read-result c = let h = listed-row (c .before) in search needs
 
 returns : tie.Need-returns
 returns c = let s = c .before .before .before .before .before in
-    rw (c .before .wide .ensures) (lists-found _ _ _ _ (s .pre) (c .before .before .before .if1 .taken))
+    rw (c .before .wide .ensures) (lists-found _ _ _ _ _ (s .pre) (c .before .before .before .if1 .taken))
 
 returns-2 : tie.Need-returns-2
-returns-2 c = lists-none _ _ _ _ (c .before .before .before .pre) (omega (arith, c .before .if1 .left)) (c .if2 .taken)
+returns-2 c = lists-none _ _ _ _ _ (c .before .before .before .pre) (omega (arith, c .before .if1 .left)) (c .if2 .taken)
 
 selectors-of-requires : tie.Need-selectors-of-requires
 selectors-of-requires c κs = search needs

@@ -16,15 +16,15 @@ use Rattle.layout.proofs.end_among.Statement.{statement}
 use Rattle.layout.proofs.end_among.Tie as tie
 
 abbrev Inv-loop : tie.InvT-loop
-Inv-loop rows direction field from point count end₀ row₀ end row =
+Inv-loop rows direction list listed field from point count end₀ row₀ end row =
     (row ≤ count)
     × Ends (number from) (number end₀) (number end) (AlikeAmong direction rows row field (valuesFrom point 0 field) (number from) (number end))
 
 abbrev μ-loop : tie.MeasureT-loop
-μ-loop rows direction field from point count end₀ row₀ end row = count - row
+μ-loop rows direction list listed field from point count end₀ row₀ end row = count - row
 
 end-listed-requires : tie.Need-end-listed-requires Inv-loop μ-loop
-end-listed-requires c κs = let s = c .before .before in (s .pre .0 .0, (lists-within _ _ _ _ _ (s .pre .1), s .pre .0 .1))
+end-listed-requires c κs = let s = c .before .before in (s .pre .0 .0, (lists-within _ _ _ _ _ _ (s .pre .1), s .pre .0 .1))
 
 listable-requires : tie.Need-listable-requires Inv-loop μ-loop
 listable-requires c κs = search needs
@@ -32,7 +32,7 @@ listable-requires c κs = search needs
 loop-holds : tie.Need-loop-holds Inv-loop μ-loop
 loop-holds c =
     let s = c .before .before .before .before in
-    (omega (arith, c .listable .ensures, min-le-left (length (now (s .args .rows)) / 22) 256), rw (c .listable .ensures) (lists-ends _ _ _ _ _ (s .pre .1) _ _ _ (c .before .end-listed .ensures)))
+    (omega (arith, c .listable .ensures, min-le-left (length (now (s .args .rows)) / 22) 256), rw (c .listable .ensures) (lists-ends _ _ _ _ _ _ (s .pre .1) _ _ _ (c .before .end-listed .ensures)))
 
 row-end-requires : tie.Need-row-end-requires Inv-loop μ-loop
 row-end-requires c κs = ((search needs, search needs), c .before .before .loop .inv .1 .reaches)

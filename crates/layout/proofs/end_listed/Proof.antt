@@ -18,30 +18,30 @@ use Rattle.layout.proofs.range_end.Reads as range-end-reads
 use Rattle.layout.proofs.wide.Reads as wide-reads
 
 abbrev Inv-loop : tie.InvT-loop
-Inv-loop rows field from list count end₀ i₀ end i =
+Inv-loop rows list count field from end₀ i₀ end i =
     (i ≤ count) × Ends (number from) (number end₀) (number end) (AlikeListed rows list i field (number from) (number end))
 
 abbrev μ-loop : tie.MeasureT-loop
-μ-loop rows field from list count end₀ i₀ end i = count - i
+μ-loop rows list count field from end₀ i₀ end i = count - i
 
 -- The row is one of the policy's.
 row-in : (c : tie.After-wide Inv-loop μ-loop) → c .wide .result < length (now (c .before .before .before .before .before .args .rows)) / 22
-row-in c = omega (arith, c .wide .ensures, c .before .before .before .before .before .pre .1 .0 .places (c .before .before .loop .i) (c .before .loop-test .taken))
+row-in c = omega (arith, c .wide .ensures, c .before .before .before .before .before .pre .1 .0 .places (c .before .before .before .loop .i) (c .before .before .loop-test .taken))
 
 loop-holds : tie.Need-loop-holds Inv-loop μ-loop
-loop-holds c = (search needs, listed-start _ _ _ _ _ (c .before .before .pre .1 .1))
+loop-holds c = (search needs, listed-start _ _ _ _ _ (c .before .pre .1 .1))
 
 mul-wide : tie.Need-mul-wide Inv-loop μ-loop
 mul-wide c = search needs
 
-array-read-wide : tie.Need-array-read-wide Inv-loop μ-loop
-array-read-wide c = search needs
+element-copy-out-wide : tie.Need-element-copy-out-wide Inv-loop μ-loop
+element-copy-out-wide c = search needs
 
 wide-requires : tie.Need-wide-requires Inv-loop μ-loop
 wide-requires c κs = search needs
 
 range-end-requires : tie.Need-range-end-requires Inv-loop μ-loop
-range-end-requires c κs = let h = row-in c in ((search needs, search needs), c .before .before .loop .inv .1 .reaches)
+range-end-requires c κs = let h = row-in c in ((search needs, search needs), c .before .before .before .loop .inv .1 .reaches)
 
 add-i : tie.Need-add-i Inv-loop μ-loop
 add-i c = search needs
@@ -50,10 +50,10 @@ loop-less : tie.Need-loop-less Inv-loop μ-loop
 loop-less c = search needs
 
 loop-again : tie.Need-loop-again Inv-loop μ-loop
-loop-again c = (search needs, listed-more _ _ _ _ _ _ _ _ (c .before .before .before .loop .inv .1) (rw (c .before .wide .ensures) at (c .range-end .ensures)))
+loop-again c = (search needs, listed-more _ _ _ _ _ _ _ _ (c .before .before .before .before .loop .inv .1) (rw (c .before .wide .ensures) at (c .range-end .ensures)))
 
 returns : tie.Need-returns Inv-loop μ-loop
-returns c = let e : c .before .loop .i ≡ c .before .before .before .before .args .picked .count = omega arith in rw e at (c .before .loop .inv .1)
+returns c = let e : c .before .loop .i ≡ c .before .before .before .args .count = omega arith in rw e at (c .before .loop .inv .1)
 
 pub end-listed-spec : {M : Type 1} → statement M
 end-listed-spec =
@@ -63,7 +63,7 @@ end-listed-spec =
     μ-loop
     loop-holds
     mul-wide
-    array-read-wide
+    element-copy-out-wide
     wide-requires
     range-end-requires
     add-i

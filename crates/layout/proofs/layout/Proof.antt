@@ -12,22 +12,22 @@ returns : tie.Need-returns
 returns c = no-room _ _ (now (c .before .before .before .before .args .room)) (omega arith)
 
 rows-for-requires : tie.Need-rows-for-requires
-rows-for-requires c κs = search needs
+rows-for-requires c κs = refl
 
 rows-for-requires-2 : tie.Need-rows-for-requires-2
-rows-for-requires-2 c κs = search needs
+rows-for-requires-2 c κs = refl
 
 layout-field-requires : tie.Need-layout-field-requires
 layout-field-requires c κs = (
-  (search needs, branch-start _ _ _ _ refl (c .before .before .rows-for .ensures) (c .before .rows-for2 .ensures)),
-  rw (all-words (c .before .before .before .before .before .before .before .args .limit)) (omega arith),
+  (search needs, branch-start _ _ _ _ _ _ refl (c .before .before .before .before .before .rows-for .ensures) (c .before .before .before .rows-for2 .ensures)),
+  rw (all-words (c .before .before .before .before .before .before .before .before .before .before .before .args .limit)) (omega arith),
 )
 
 same-length : tie.Need-same-length
 same-length c = search needs
 
 returns-2 : tie.Need-returns-2
-returns-2 c = let a = c .before .before .before .before .before .before .before .before .before .before .args in
+returns-2 c = let a = c .before .before .before .before .before .before .before .before .before .before .before .before .before .before .args in
     laid-all _ _ (record { direction = a .direction; highest = a .highest; limit = a .limit }) _ (now (a .room)) _ _ (omega arith) (c .before .before .layout-field .ensures)
 
 pub layout-spec : {M : Type 1} → statement M

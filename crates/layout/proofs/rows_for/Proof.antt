@@ -2,7 +2,7 @@
 -- The measure is the count of the others. Assumes nothing.
 use Prim.Native.Nat.{_≤_, _-_}
 use native.Mathlib.Omega.{arith}
-use mathlib.Core.Path.{_≡_, refl, sym, _∙_}
+use mathlib.Core.Path.{_≡_, sym, _∙_}
 use mathlib.Core.List.{[]}
 use mathlib.Core.Logic.{inl, inr, ⊎-elim}
 use Rattle.layout.specs.Decode.{valuesFrom, active}
@@ -17,18 +17,18 @@ use Rattle.layout.proofs.active.Reads as active-reads
 use Rattle.layout.proofs.listable.Reads as listable-reads
 
 abbrev Inv-loop : tie.InvT-loop
-Inv-loop rows direction nowhere total list₀ count₀ row₀ list count row =
+Inv-loop rows direction list₀ nowhere total count₀ row₀ list count row =
     (row ≤ total) × ((count ≤ row) × Takes (λ i. active direction rows i 0 []) (upFrom 0 row) list count)
 
 abbrev μ-loop : tie.MeasureT-loop
-μ-loop rows direction nowhere total list₀ count₀ row₀ list count row = total - row
+μ-loop rows direction list₀ nowhere total count₀ row₀ list count row = total - row
 
 listable-requires : tie.Need-listable-requires Inv-loop μ-loop
 listable-requires c κs = search needs
 
 loop-holds : tie.Need-loop-holds Inv-loop μ-loop
 unfolding upFrom
-loop-holds c = (search needs, (search needs, takes-none _ _ refl))
+loop-holds c = (search needs, (search needs, takes-none _ _ (c .before .before .pre)))
 
 cast-list : tie.Need-cast-list Inv-loop μ-loop
 cast-list c = search needs
@@ -36,8 +36,8 @@ cast-list c = search needs
 mul-list : tie.Need-mul-list Inv-loop μ-loop
 mul-list c = search needs
 
-array-write-list : tie.Need-array-write-list Inv-loop μ-loop
-array-write-list c = search needs
+element-write-list : tie.Need-element-write-list Inv-loop μ-loop
+element-write-list c = search needs
 
 active-requires : tie.Need-active-requires Inv-loop μ-loop
 active-requires c κs = search needs
@@ -76,7 +76,7 @@ rows-for-spec =
     loop-holds
     cast-list
     mul-list
-    array-write-list
+    element-write-list
     active-requires
     add-count
     add-row
