@@ -6,7 +6,7 @@ use mathlib.Core.List.{List, [], _∷_}
 use lib.ListN.{length, getD, take}
 use Rattle.selectors.specs.Range.{contains}
 use Rattle.selectors.specs.declared.Direction.{Direction}
-use Rattle.policy.specs.Words.{rowWords}
+use Rattle.policy.specs.Words.{rowWords, rowLimit}
 use Rattle.layout.specs.Decode.{valuesFrom, rangeOf, active}
 use Rattle.layout.specs.Steps.{AlikeTo}
 use Rattle.layout.specs.declared.Branch.{Branch}
@@ -22,18 +22,18 @@ upFrom i (suc n) = i ∷ upFrom (suc i) n
 
 -- How many rows of a policy are listed.
 abbrev pub listed : List ℕ → ℕ
-listed ws = min (length ws / rowWords) 256
+listed ws = min (length ws / rowWords) rowLimit
 
 -- The first n numbers of a list are places of rows of a policy.
 pub record Within (ws list : List ℕ) (n : ℕ) : Type 0 where
-  pub sized : length list ≡ 256
-  pub fits : n ≤ 256
+  pub sized : length list ≡ rowLimit
+  pub fits : n ≤ rowLimit
   pub places : (k : ℕ) → k < n → getD list k 0 < length ws / rowWords
 
 -- The first n numbers of a list are, in order, those that a test takes from other numbers.
 pub record Takes (test : ℕ → Bool) (among list : List ℕ) (n : ℕ) : Type 0 where
-  pub sized : length list ≡ 256
-  pub fits : n ≤ 256
+  pub sized : length list ≡ rowLimit
+  pub fits : n ≤ rowLimit
   pub rows : take n list ≡ those test among
 
 -- They are the listed rows of a policy that are active.

@@ -16,7 +16,7 @@ use Rattle.selectors.specs.declared.Direction.{Direction}
 use Rattle.selectors.specs.declared.Value.{Value}
 use Rattle.normal_form.specs.Search.{holds}
 use Rattle.policy.specs.Policy.{appliesTo, orderedSearch}
-use Rattle.policy.specs.Words.{actionWord, actionOf, directionOf, rowAt, rowsFrom, policyRows, rowWords}
+use Rattle.policy.specs.Words.{actionWord, actionOf, directionOf, rowAt, rowsFrom, policyRows, rowWords, rowLimit}
 use Rattle.policy.specs.WordsLaws.{action-word}
 use Rattle.policy.specs.declared.Action.the-variants.{Discard}
 use Rattle.layout.specs.Decode.{valuesFrom, rangeOf, rangesFrom, active}
@@ -45,7 +45,7 @@ module _ (p : ℕ → Bool) (x : ℕ) where
   those-passed (y ∷ xs) e = rw (those-passed xs e)
 
   -- A list with the next number written behind the others: kept, or passed over.
-  module _ (xs list : List ℕ) (n : ℕ) (h : n < 256) (t : Takes p xs list n) where
+  module _ (xs list : List ℕ) (n : ℕ) (h : n < rowLimit) (t : Takes p xs list n) where
     takes-kept : p x ≡ true → Takes p (xs ++ x ∷ []) (set list n x) (n + 1)
     takes-kept e = record {
       sized = length-set list n x ∙ t .sized;
@@ -63,7 +63,7 @@ module _ (p : ℕ → Bool) (x : ℕ) where
     pub takes-next : (ys : List ℕ) → ys ≡ xs ++ x ∷ [] → (n′ : ℕ) → ((p x ≡ true) × (n′ ≡ n + 1)) ⊎ ((p x ≡ false) × (n′ ≡ n)) → Takes p ys (set list n x) n′
     takes-next ys e n′ o = ⊎-elim (λ w. rw (e, w .1) (takes-kept (w .0))) (λ w. rw (e, w .1) (takes-passed (w .0))) o
 
-pub takes-none : (p : ℕ → Bool) (list : List ℕ) → length list ≡ 256 → Takes p [] list 0
+pub takes-none : (p : ℕ → Bool) (list : List ℕ) → length list ≡ rowLimit → Takes p [] list 0
 unfolding those
 takes-none p list e = record { sized = e; fits = omega arith; rows = refl }
 
@@ -147,7 +147,7 @@ module _ (d : Direction) (ws : List ℕ) (f : ℕ) (before list : List ℕ) (n :
   lists-within = record {
     sized = t .sized;
     fits = t .fits;
-    places = λ k h. omega (arith, takes-below _ _ list n t k h, min-le-left (length ws / rowWords) 256);
+    places = λ k h. omega (arith, takes-below _ _ list n t k h, min-le-left (length ws / rowWords) rowLimit);
   }
 
   lists-alike : (from last : ℕ) → AlikeListed ws list n f from last → AlikeAmong d ws (listed ws) f before from last
@@ -214,13 +214,13 @@ module _ (d : Direction) (ws vs : List ℕ) where
     pub lists-found : 0 < n → getD ws (getD list 0 0 * rowWords + 1) 0 ≡ actionWord (orderedSearch d (policyRows ws) vs)
     lists-found h =
         let xs = those (λ n. active d ws n 5 vs) (upFrom 0 (listed ws)) in
-        let m : length ws / rowWords ≡ listed ws + (length ws / rowWords - listed ws) = omega (arith, min-le-left (length ws / rowWords) 256) in
+        let m : length ws / rowWords ≡ listed ws + (length ws / rowWords - listed ws) = omega (arith, min-le-left (length ws / rowWords) rowLimit) in
         let r : orderedSearch d (policyRows ws) vs ≡ actionOf (getD ws (getD xs 0 0 * rowWords + 1) 0) =
         ap (λ (c : ℕ). orderedSearch d (rowsFrom ws 0 c) vs) m
         ∙ search-found 0 (listed ws) (length ws / rowWords - listed ws) (getD xs 0 0) (drop 1 xs) (drop-cons xs 0 0 (rw (taken _ _ list n t) h)) in
         sym (ap actionWord r ∙ action-word (getD ws (getD xs 0 0 * rowWords + 1) 0) ∙ ap (λ (j : ℕ). getD ws (j * rowWords + 1) 0) (taken-at _ _ list n t 0 h))
 
-    pub lists-none : n ≡ 0 → length ws / rowWords ≤ 256 → 0 ≡ actionWord (orderedSearch d (policyRows ws) vs)
+    pub lists-none : n ≡ 0 → length ws / rowWords ≤ rowLimit → 0 ≡ actionWord (orderedSearch d (policyRows ws) vs)
     lists-none e h =
         let m : listed ws ≡ length ws / rowWords = min-eq-left h in
         sym (ap actionWord (search-none 0 (length ws / rowWords) (rw m at (sym (rw e at (t .rows))))))

@@ -11,13 +11,14 @@ ghost use Rattle.selectors.specs.Value.{number, combination};
 ghost use Rattle.selectors.specs.Words.{valueAt, rangeAt};
 ghost use Rattle.normal_form.specs.Search.{holds};
 ghost use Rattle.policy.specs.Policy.{orderedSearch};
-ghost use Rattle.policy.specs.Words.{policyRows, actionWord};
+ghost use Rattle.policy.specs.Words.{policyRows, actionWord, rowLimit};
 ghost use Rattle.layout.specs.Decode.{valuesFrom, rangeOf, rangesFrom, active as isActive, partRow, partRows};
 ghost use Rattle.layout.specs.Laid.{sizesOf, Outcome};
 ghost use Rattle.layout.specs.Lists.{Lists, Within, Narrowed, AlikeListed, BranchAt};
 ghost use Rattle.layout.specs.Parting.{differenceForm};
 ghost use Rattle.layout.specs.Steps.{Ends, AlikeTo, AlikeIn, Put, Stamped, Placed, LaidOut, fieldForm, valueForm, wordsFor};
 use policy::Found;
+use policy::LIMIT;
 use policy::ROW_WORDS;
 use selectors::AddressRange;
 use selectors::Direction;
@@ -64,9 +65,6 @@ struct Kept {
 }
 
 const ZERO: Value = Value { upper: 0, lower: 0 };
-
-// The most rows that a list has. Rows of a policy beyond them are asked one by one.
-const MOST: usize = 256;
 
 // A point's value of a field.
 fn point_value(point: &[u64; 10], field: usize) -> Value
@@ -156,19 +154,19 @@ fn wide(row: u16) -> usize
     row as usize
 }
 
-// How many of so many rows are listed.
+// How many of so many rows are listed: the limit's at the most. Rows of a policy beyond them are asked one by one.
 fn listable(total: usize) -> usize
-    ensures { λ r. ⌜ r ≡ min total 256 ⌝ }
+    ensures { λ r. ⌜ r ≡ min total rowLimit ⌝ }
 {
-    if total < MOST {
+    if total < LIMIT {
         return total;
     }
-    MOST
+    LIMIT
 }
 
 // Lists the rows for the direction, and counts them.
-fn rows_for(rows: &[u64], direction: Direction, list: &mut [u16; 256]) -> usize
-    requires { ⌜ length (now list) ≡ 256 ⌝ }
+fn rows_for(rows: &[u64], direction: Direction, list: &mut [u16; LIMIT]) -> usize
+    requires { ⌜ length (now list) ≡ rowLimit ⌝ }
     ensures { λ r. ⌜ Lists direction (now (rows .entry)) 0 [] (now (list .exit)) r ⌝ }
 {
     let nowhere = [0u64; 10];
@@ -188,14 +186,14 @@ fn rows_for(rows: &[u64], direction: Direction, list: &mut [u16; 256]) -> usize
 // Lists those of the first `total` listed rows whose ranges of the field hold the value, and counts them.
 fn narrow(
     rows: &[u64],
-    old: &[u16; 256],
+    old: &[u16; LIMIT],
     total: usize,
     field: usize,
     value: Value,
-    list: &mut [u16; 256],
+    list: &mut [u16; LIMIT],
 ) -> usize
     requires { ⌜ (field < 5) × Within (now rows) (now old) total ⌝ }
-    requires { ⌜ length (now list) ≡ 256 ⌝ }
+    requires { ⌜ length (now list) ≡ rowLimit ⌝ }
     ensures { λ r. ⌜ Narrowed (now (rows .entry)) field (number value) (now (old .entry)) total (now (list .exit)) r ⌝ }
 {
     let mut count: usize = 0;
@@ -216,7 +214,7 @@ fn action_at(
     rows: &[u64],
     direction: Direction,
     point: Point,
-    list: &[u16; 256],
+    list: &[u16; LIMIT],
     count: usize,
 ) -> u64
     requires { ⌜ Lists direction (now rows) 5 (valuesFrom (point .words) 0 5) (now list) count ⌝ }
@@ -225,7 +223,7 @@ fn action_at(
     if 0 < count {
         return rows[wide(list[0]) * ROW_WORDS + 1];
     }
-    if rows.len() / ROW_WORDS <= MOST {
+    if rows.len() / ROW_WORDS <= LIMIT {
         return 0;
     }
     let found = policy::first_match(rows, direction, selectors_of(point));
@@ -298,7 +296,7 @@ fn row_end(
 // The same for the listed rows.
 fn end_listed(
     rows: &[u64],
-    list: &[u16; 256],
+    list: &[u16; LIMIT],
     count: usize,
     field: usize,
     from: Value,
@@ -321,7 +319,7 @@ fn end_among(
     rows: &[u64],
     direction: Direction,
     point: Point,
-    list: &[u16; 256],
+    list: &[u16; LIMIT],
     listed: usize,
     field: usize,
     from: Value,
@@ -463,8 +461,8 @@ fn leaf(
     second: &[u64],
     task: Task,
     branch: Branch,
-    of_first: &[u16; 256],
-    of_second: &[u16; 256],
+    of_first: &[u16; LIMIT],
+    of_second: &[u16; LIMIT],
     room: &mut [u64],
 ) -> Laid
     requires { ⌜ (task .limit * 22 ≤ length (now room)) × BranchAt (task .direction) (now first) (now second) 5 branch (now «of_first») (now «of_second») ⌝ }
@@ -491,8 +489,8 @@ fn interval_end(
     second: &[u64],
     direction: Direction,
     branch: Branch,
-    of_first: &[u16; 256],
-    of_second: &[u16; 256],
+    of_first: &[u16; LIMIT],
+    of_second: &[u16; LIMIT],
     field: usize,
     from: Value,
     top: Value,
@@ -530,8 +528,8 @@ fn layout_stretch(
     second: &[u64],
     task: Task,
     branch: Branch,
-    of_first: &[u16; 256],
-    of_second: &[u16; 256],
+    of_first: &[u16; LIMIT],
+    of_second: &[u16; LIMIT],
     field: usize,
     from: Value,
     room: &mut [u64],
@@ -540,8 +538,8 @@ fn layout_stretch(
     requires { ⌜ wordsFor (task .limit) (5 - (field + 1)) ≤ length (now room) ⌝ }
     ensures { λ r. ⌜ LaidOut (task .limit) (field + 1) (5 - (field + 1)) (valueForm (now (first .entry)) (now (second .entry)) task (branch .point) field (number from)) (now (room .exit)) r ⌝ }
 {
-    let mut in_first = [0u16; 256];
-    let mut in_second = [0u16; 256];
+    let mut in_first = [0u16; LIMIT];
+    let mut in_second = [0u16; LIMIT];
     let point = with_value(branch.point, field, from);
     let firsts = narrow(first, of_first, branch.firsts, field, from, &mut in_first);
     let seconds = narrow(
@@ -580,8 +578,8 @@ fn layout_field(
     second: &[u64],
     task: Task,
     branch: Branch,
-    of_first: &[u16; 256],
-    of_second: &[u16; 256],
+    of_first: &[u16; LIMIT],
+    of_second: &[u16; LIMIT],
     field: usize,
     room: &mut [u64],
 ) -> Laid
@@ -654,8 +652,8 @@ pub fn layout(
     if room.len() / ROOM_WORDS < limit {
         return Laid::NoRoom;
     }
-    let mut of_first = [0u16; 256];
-    let mut of_second = [0u16; 256];
+    let mut of_first = [0u16; LIMIT];
+    let mut of_second = [0u16; LIMIT];
     let firsts = rows_for(first, direction, &mut of_first);
     let seconds = rows_for(second, direction, &mut of_second);
     let branch = Branch {

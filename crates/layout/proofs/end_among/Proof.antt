@@ -7,6 +7,7 @@ use mathlib.Core.Path.{_≡_}
 use lib.ListN.{length}
 use denote.Ref.{now}
 use Rattle.selectors.specs.Value.{number}
+use Rattle.policy.specs.Words.{rowLimit}
 use Rattle.layout.specs.Steps.{Ends, AlikeAmong}
 use Rattle.layout.specs.Decode.{valuesFrom}
 use Rattle.layout.specs.StepsLaws.{ends-more}
@@ -32,7 +33,7 @@ listable-requires c κs = search needs
 loop-holds : tie.Need-loop-holds Inv-loop μ-loop
 loop-holds c =
     let s = c .before .before .before .before in
-    (omega (arith, c .listable .ensures, min-le-left (length (now (s .args .rows)) / 22) 256), rw (c .listable .ensures) (lists-ends _ _ _ _ _ _ (s .pre .1) _ _ _ (c .before .end-listed .ensures)))
+    (omega (arith, c .listable .ensures, min-le-left (length (now (s .args .rows)) / 22) rowLimit), rw (c .listable .ensures) (lists-ends _ _ _ _ _ _ (s .pre .1) _ _ _ (c .before .end-listed .ensures)))
 
 row-end-requires : tie.Need-row-end-requires Inv-loop μ-loop
 row-end-requires c κs = ((search needs, search needs), c .before .before .loop .inv .1 .reaches)
