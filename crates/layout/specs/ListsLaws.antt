@@ -227,14 +227,14 @@ module _ (d : Direction) (ws vs : List ℕ) where
 
 -- A branch with a value more is one at the next field, and one without values is one at the first field.
 module _ (d : Direction) (first second : List ℕ) where
-  pub branch-next : (f : ℕ) (v : Value) (old b : Branch) (xs ys xs′ ys′ : List ℕ) → f < 5 → BranchAt d first second f old xs ys
+  pub branch-next : (f : ℕ) (v : Value) (old b : Branch) (xs ys xs′ ys′ : List ℕ) (g : ℕ) → g ≡ f + 1 → f < 5 → BranchAt d first second f old xs ys
       → b .point .words ≡ set (set (old .point .words) (2 * f) (v .upper)) (2 * f + 1) (v .lower)
       → Narrowed first f (number v) xs (old .firsts) xs′ (b .firsts) → Narrowed second f (number v) ys (old .seconds) ys′ (b .seconds)
-      → BranchAt d first second (f + 1) b xs′ ys′
-  branch-next f v old b xs ys xs′ ys′ h s w p q =
+      → BranchAt d first second g b xs′ ys′
+  branch-next f v old b xs ys xs′ ys′ g z h s w p q =
       let e : valuesFrom (b .point .words) 0 (f + 1) ≡ valuesFrom (old .point .words) 0 f ++ number v ∷ [] =
       ap (λ (ps : List ℕ). valuesFrom ps 0 (f + 1)) w ∙ values-with (old .point .words) f v (omega (arith, s .sized)) in
-      record {
+      rw z record {
         sized = rw (w, length-set, length-set) (s .sized);
         of-first = rw e (lists-next d first f _ (values-length _ 0 f) (number v) xs _ xs′ _ (s .of-first) p);
         of-second = rw e (lists-next d second f _ (values-length _ 0 f) (number v) ys _ ys′ _ (s .of-second) q);

@@ -50,8 +50,10 @@ struct Task {
     limit: usize,
 }
 
-// A point, and how many rows of each policy hold its values so far. Beside it the lists of these rows are lent, by their places.
+// A field that is to be laid out behind the point's values of those before it, and how many rows of each policy hold these. The lists of
+// those rows, by their places, are lent beside it.
 struct Branch {
+    field: usize,
     point: Point,
     firsts: usize,
     seconds: usize,
@@ -65,6 +67,12 @@ struct Kept {
 }
 
 const ZERO: Value = Value { upper: 0, lower: 0 };
+
+const START: Kept = Kept {
+    last: 0,
+    next: 0,
+    low: ZERO,
+};
 
 // A point's value of a field.
 fn point_value(point: &[u64; 10], field: usize) -> Value
@@ -487,19 +495,20 @@ fn leaf(
 fn interval_end(
     first: &[u64],
     second: &[u64],
-    direction: Direction,
+    task: Task,
     branch: Branch,
     of_first: &[u16; LIMIT],
     of_second: &[u16; LIMIT],
-    field: usize,
     from: Value,
     top: Value,
 ) -> Value
-    requires { ⌜ (field < 5) × (number from ≤ number top) ⌝ }
-    requires { ⌜ BranchAt direction (now first) (now second) field branch (now «of_first») (now «of_second») ⌝ }
-    ensures { λ r. ⌜ Ends (number from) (number top) (number r) (AlikeIn direction (now (first .entry)) (branch .point) field (number from) (number r) × AlikeIn direction (now (second .entry)) (branch .point) field (number from) (number r)) ⌝ }
+    requires { ⌜ (branch .field < 5) × (number from ≤ number top) ⌝ }
+    requires { ⌜ BranchAt (task .direction) (now first) (now second) (branch .field) branch (now «of_first») (now «of_second») ⌝ }
+    ensures { λ r. ⌜ Ends (number from) (number top) (number r) (AlikeIn (task .direction) (now (first .entry)) (branch .point) (branch .field) (number from) (number r) × AlikeIn (task .direction) (now (second .entry)) (branch .point) (branch .field) (number from) (number r)) ⌝ }
 {
+    let direction = task.direction;
     let point = branch.point;
+    let field = branch.field;
     let best = end_among(
         first,
         direction,
@@ -530,16 +539,16 @@ fn layout_stretch(
     branch: Branch,
     of_first: &[u16; LIMIT],
     of_second: &[u16; LIMIT],
-    field: usize,
     from: Value,
     room: &mut [u64],
 ) -> Laid
-    requires { ⌜ (field < 5) × BranchAt (task .direction) (now first) (now second) field branch (now «of_first») (now «of_second») ⌝ }
-    requires { ⌜ wordsFor (task .limit) (5 - (field + 1)) ≤ length (now room) ⌝ }
-    ensures { λ r. ⌜ LaidOut (task .limit) (field + 1) (5 - (field + 1)) (valueForm (now (first .entry)) (now (second .entry)) task (branch .point) field (number from)) (now (room .exit)) r ⌝ }
+    requires { ⌜ (branch .field < 5) × BranchAt (task .direction) (now first) (now second) (branch .field) branch (now «of_first») (now «of_second») ⌝ }
+    requires { ⌜ wordsFor (task .limit) (5 - (branch .field + 1)) ≤ length (now room) ⌝ }
+    ensures { λ r. ⌜ LaidOut (task .limit) (branch .field + 1) (5 - (branch .field + 1)) (valueForm (now (first .entry)) (now (second .entry)) task (branch .point) (branch .field) (number from)) (now (room .exit)) r ⌝ }
 {
     let mut in_first = [0u16; LIMIT];
     let mut in_second = [0u16; LIMIT];
+    let field = branch.field;
     let point = with_value(branch.point, field, from);
     let firsts = narrow(first, of_first, branch.firsts, field, from, &mut in_first);
     let seconds = narrow(
@@ -550,29 +559,20 @@ fn layout_stretch(
         from,
         &mut in_second,
     );
+    let inner = field + 1;
     let here = Branch {
+        field: inner,
         point,
         firsts,
         seconds,
     };
-    let inner = field + 1;
     if inner == FIELDS {
         return leaf(first, second, task, here, &in_first, &in_second, room);
     }
-    layout_field(
-        first,
-        second,
-        task,
-        here,
-        &in_first,
-        &in_second,
-        inner,
-        room,
-    )
+    layout_field(first, second, task, here, &in_first, &in_second, room)
 }
 
-// Lays out the field and those after it, behind the values of the branch in the fields before it: from interval to interval, each of which
-// is laid out into the rest of the room.
+// Lays out the branch's field and those after it: from interval to interval, each of which is laid out into the rest of the room.
 fn layout_field(
     first: &[u64],
     second: &[u64],
@@ -580,46 +580,22 @@ fn layout_field(
     branch: Branch,
     of_first: &[u16; LIMIT],
     of_second: &[u16; LIMIT],
-    field: usize,
     room: &mut [u64],
 ) -> Laid
-    requires { ⌜ (field < 5) × BranchAt (task .direction) (now first) (now second) field branch (now «of_first») (now «of_second») ⌝ }
-    requires { ⌜ wordsFor (task .limit) (5 - field) ≤ length (now room) ⌝ }
-    ensures { λ r. ⌜ LaidOut (task .limit) field (5 - field) (fieldForm (now (first .entry)) (now (second .entry)) task (branch .point) field) (now (room .exit)) r ⌝ }
+    requires { ⌜ (branch .field < 5) × BranchAt (task .direction) (now first) (now second) (branch .field) branch (now «of_first») (now «of_second») ⌝ }
+    requires { ⌜ wordsFor (task .limit) (5 - branch .field) ≤ length (now room) ⌝ }
+    ensures { λ r. ⌜ LaidOut (task .limit) (branch .field) (5 - branch .field) (fieldForm (now (first .entry)) (now (second .entry)) task (branch .point) (branch .field)) (now (room .exit)) r ⌝ }
 {
-    let direction = task.direction;
+    let field = branch.field;
     let highest = task.highest.words;
     let top = point_value(&highest, field);
-    let mut kept = Kept {
-        last: 0,
-        next: 0,
-        low: ZERO,
-    };
+    let mut kept = START;
     let mut from = ZERO;
     loop {
-        let end = interval_end(
-            first,
-            second,
-            direction,
-            branch,
-            of_first,
-            of_second,
-            field,
-            from,
-            top,
-        );
+        let end = interval_end(first, second, task, branch, of_first, of_second, from, top);
         let base = kept.next * ROW_WORDS;
-        let laid = layout_stretch(
-            first,
-            second,
-            task,
-            branch,
-            of_first,
-            of_second,
-            field,
-            from,
-            &mut room[base..],
-        );
+        let rest = &mut room[base..];
+        let laid = layout_stretch(first, second, task, branch, of_first, of_second, from, rest);
         let Laid::Rows(count) = laid else {
             return Laid::Over;
         };
@@ -657,6 +633,7 @@ pub fn layout(
     let firsts = rows_for(first, direction, &mut of_first);
     let seconds = rows_for(second, direction, &mut of_second);
     let branch = Branch {
+        field: 0,
         point: Point { words: [0; 10] },
         firsts,
         seconds,
@@ -666,5 +643,5 @@ pub fn layout(
         highest,
         limit,
     };
-    layout_field(first, second, task, branch, &of_first, &of_second, 0, room)
+    layout_field(first, second, task, branch, &of_first, &of_second, room)
 }

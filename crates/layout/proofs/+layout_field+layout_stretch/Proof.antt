@@ -40,10 +40,10 @@ use Rattle.layout.proofs.stamp.Reads as stamp-reads
 use Rattle.layout.proofs.with_value.Reads as with-value-reads
 
 abbrev μ-layout-field : Measures 5 layout-field-kinds.ps ℕ
-μ-layout-field κs a = 11 - 2 * a .1 .1 .1 .1 .1 .1 .0
+μ-layout-field κs a = 11 - 2 * a .1 .1 .1 .0 .field
 
 abbrev μ-layout-stretch : Measures 5 layout-stretch-kinds.ps ℕ
-μ-layout-stretch κs a = 10 - 2 * a .1 .1 .1 .1 .1 .1 .0
+μ-layout-stretch κs a = 10 - 2 * a .1 .1 .1 .0 .field
 
 abbrev layout-field-at : ℕ → In 5 layout-field-kinds.ps
 layout-field-at t =
@@ -105,13 +105,13 @@ layout-stretch-claims t = (
 )
 
 abbrev layout-field-Inv-loop : layout-field-lts.InvT-loop
-layout-field-Inv-loop first second task branch of-first of-second field room₀ direction top kept₀ from₀ room kept from =
+layout-field-Inv-loop first second task branch of-first of-second room₀ field top kept₀ from₀ room kept from =
     (length room ≡ length room₀)
     × ((kept .next ≤ task .limit)
-    × ((number from ≤ number top) × Progress first second task (valuesFrom (branch .point .words) 0 field) field room kept (number from)))
+    × ((number from ≤ number top) × Progress first second task (valuesFrom (branch .point .words) 0 (branch .field)) (branch .field) room kept (number from)))
 
 abbrev layout-field-μ-loop : layout-field-lts.MeasureT-loop
-layout-field-μ-loop first second task branch of-first of-second field room₀ direction top kept₀ from₀ room kept from =
+layout-field-μ-loop first second task branch of-first of-second room₀ field top kept₀ from₀ room kept from =
     number top - number from
 
 -- The places of a turn: where it begins, and after the calls.
@@ -128,22 +128,22 @@ abbrev Gone : ℕ → Type 0
 Gone t = layout-field-lts.After-next (layout-field-claims t) (layout-field-at t) layout-field.Post layout-field-Inv-loop layout-field-μ-loop
 
 -- The part of the room behind the rows so far.
-room : (t : ℕ) (c : Begun t) → Room (c .before .before .before .before .before .before .before .args .task .limit) (c .before .before .before .before .before .before .before .args .field) (c .loop .kept .next * 22) (c .loop .room)
+room : (t : ℕ) (c : Begun t) → Room (c .before .before .before .before .before .before .before .args .task .limit) (c .before .before .before .before .before .before .before .args .branch .field) (c .loop .kept .next * 22) (c .loop .room)
 room t c = let s = c .before .before .before .before .before .before .before in room-for _ _ _ _ _ (s .pre .1 .0 .0) (c .loop .inv .1 .0) (s .pre .1 .1) (c .loop .inv .0)
 
 -- The room is as long as before when that part is back.
 back : (t : ℕ) (c : Stretched t)
-    → length (putMid (c .before .before .before .before .loop .kept .next * 22) (length (c .before .before .before .before .loop .room) - c .before .before .before .before .loop .kept .next * 22) (c .before .before .before .before .loop .room) (c .layout-stretch .last .1 .1 .1 .1 .1 .1 .1 .1 .0))
+    → length (putMid (c .before .before .before .before .loop .kept .next * 22) (length (c .before .before .before .before .loop .room) - c .before .before .before .before .loop .kept .next * 22) (c .before .before .before .before .loop .room) (c .layout-stretch .last .1 .1 .1 .1 .1 .1 .1 .0))
     ≡ length (c .before .before .before .before .loop .room)
 back t c =
     let l = c .before .before .before .before .loop in
-    same-len-mid (l .kept .next * 22) (length (l .room) - l .kept .next * 22) (l .room) (c .layout-stretch .last .1 .1 .1 .1 .1 .1 .1 .1 .0)
-    (c .layout-stretch .kept .1 .1 .1 .1 .1 .1 .1 .1 .0)
+    same-len-mid (l .kept .next * 22) (length (l .room) - l .kept .next * 22) (l .room) (c .layout-stretch .last .1 .1 .1 .1 .1 .1 .1 .0)
+    (c .layout-stretch .kept .1 .1 .1 .1 .1 .1 .1 .0)
 
 -- After `place` the loop has come to the value behind the interval.
 placed : (t : ℕ) (c : Placed t)
     → (let s = c .before .before .before .before .before .before .before .before .before .before .before .before .before .before .before .before .before .before in
-    Progress (now (s .args .first)) (now (s .args .second)) (s .args .task) (valuesFrom (s .args .branch .point .words) 0 (s .args .field)) (s .args .field)
+    Progress (now (s .args .first)) (now (s .args .second)) (s .args .task) (valuesFrom (s .args .branch .point .words) 0 (s .args .branch .field)) (s .args .branch .field)
     (c .place .last .0) (c .place .result) (number (c .before .before .before .before .before .before .before .before .before .before .interval-end .result) + 1))
 placed t c =
     let y = c .before .before .before .before .before .before .before in
@@ -152,7 +152,7 @@ placed t c =
     let s = l .before .before .before .before .before .before .before in
     let r = room t l in
     turn-lent _ _ _ _ _ (s .pre .1 .0 .0) (values-length _ 0 _) _ _ (e .reaches) (e .alike) _ _ _ _ _ _ (s .args .task .limit) _ (l .loop .inv .1 .1 .1) (omega arith)
-    (rw (y .layout-stretch .kept .1 .1 .1 .1 .1 .1 .1 .1 .0) (r .enough)) _ (c .before .before .before .laid .given .1) (y .layout-stretch .ensures) (c .place .ensures)
+    (rw (y .layout-stretch .kept .1 .1 .1 .1 .1 .1 .1 .0) (r .enough)) _ (c .before .before .before .laid .given .1) (y .layout-stretch .ensures) (c .place .ensures)
 
 -- The next turn's first value is one more than the interval's last, which is below the field's highest.
 further : (t : ℕ) (c : Gone t)
@@ -178,19 +178,19 @@ layout-field-interval-end-requires t c κs =
     let s = c .before .before .before .before .before .before .before in ((s .pre .1 .0 .0, c .loop .inv .1 .1 .0), s .pre .1 .0 .1)
 
 layout-field-mul-base : (t : ℕ) → layout-field-lts.Need-mul-base (layout-field-claims t) (layout-field-at t) layout-field.Post layout-field-Inv-loop layout-field-μ-loop
-layout-field-mul-base t c = let l = c .before .before in omega (arith, room t l .start, l .loop .inv .0, l .before .before .before .before .before .before .before .good .1 .1 .1 .1 .1 .1 .1 .0 .0)
+layout-field-mul-base t c = let l = c .before .before in omega (arith, room t l .start, l .loop .inv .0, l .before .before .before .before .before .before .before .good .1 .1 .1 .1 .1 .1 .0 .0)
 
-layout-field-mul-layout-stretch : (t : ℕ) → layout-field-lts.Need-mul-layout-stretch (layout-field-claims t) (layout-field-at t) layout-field.Post layout-field-Inv-loop layout-field-μ-loop
-layout-field-mul-layout-stretch t c = let l = c .before .before in omega (arith, room t l .start, l .loop .inv .0, l .before .before .before .before .before .before .before .good .1 .1 .1 .1 .1 .1 .1 .0 .1)
+layout-field-mul-rest : (t : ℕ) → layout-field-lts.Need-mul-rest (layout-field-claims t) (layout-field-at t) layout-field.Post layout-field-Inv-loop layout-field-μ-loop
+layout-field-mul-rest t c = let l = c .before .before in omega (arith, room t l .start, l .loop .inv .0, l .before .before .before .before .before .before .before .good .1 .1 .1 .1 .1 .1 .0 .1)
 
-layout-field-sub-layout-stretch : (t : ℕ) → layout-field-lts.Need-sub-layout-stretch (layout-field-claims t) (layout-field-at t) layout-field.Post layout-field-Inv-loop layout-field-μ-loop
-layout-field-sub-layout-stretch t c = let r = room t (c .before .before) in omega arith
+layout-field-sub-rest : (t : ℕ) → layout-field-lts.Need-sub-rest (layout-field-claims t) (layout-field-at t) layout-field.Post layout-field-Inv-loop layout-field-μ-loop
+layout-field-sub-rest t c = let r = room t (c .before .before) in omega arith
 
-layout-field-part-layout-stretch-start : (t : ℕ) → layout-field-lts.Need-part-layout-stretch-start (layout-field-claims t) (layout-field-at t) layout-field.Post layout-field-Inv-loop layout-field-μ-loop
-layout-field-part-layout-stretch-start t c = let r = room t (c .before .before) in omega arith
+layout-field-part-rest-start : (t : ℕ) → layout-field-lts.Need-part-rest-start (layout-field-claims t) (layout-field-at t) layout-field.Post layout-field-Inv-loop layout-field-μ-loop
+layout-field-part-rest-start t c = let r = room t (c .before .before) in omega arith
 
-layout-field-part-layout-stretch-end : (t : ℕ) → layout-field-lts.Need-part-layout-stretch-end (layout-field-claims t) (layout-field-at t) layout-field.Post layout-field-Inv-loop layout-field-μ-loop
-layout-field-part-layout-stretch-end t c = search needs
+layout-field-part-rest-end : (t : ℕ) → layout-field-lts.Need-part-rest-end (layout-field-claims t) (layout-field-at t) layout-field.Post layout-field-Inv-loop layout-field-μ-loop
+layout-field-part-rest-end t c = search needs
 
 layout-field-layout-stretch-requires : (t : ℕ) → layout-field-lts.Need-layout-stretch-requires (layout-field-claims t) (layout-field-at t) layout-field.Post layout-field-Inv-loop layout-field-μ-loop
 layout-field-layout-stretch-requires t c κs =
@@ -209,7 +209,7 @@ layout-field-returns t c =
     let y = c .before .before .before in
     let l = y .before .before .before .before in
     let s = l .before .before .before .before .before .before .before in
-    over-behind (now (s .args .first)) (now (s .args .second)) (s .args .task) (valuesFrom (s .args .branch .point .words) 0 (s .args .field)) (s .args .field) (s .pre .1 .0 .0)
+    over-behind (now (s .args .first)) (now (s .args .second)) (s .args .task) (valuesFrom (s .args .branch .point .words) 0 (s .args .branch .field)) (s .args .branch .field) (s .pre .1 .0 .0)
     (s .args .task .limit) (number (l .loop .from)) (omega (arith, l .loop .inv .1 .1 .0, ap number (l .before .point-value .ensures)))
     (laid-else _ _ _ _ _ (tagOf the-type) (λ m. refl) _ (y .layout-stretch .ensures) (c .match .keys2)) _
 
@@ -279,13 +279,13 @@ layout-stretch-narrow-requires-2 t c κs = let b = c .before .before .before .be
 abbrev Narrowed : ℕ → Type 0
 Narrowed t = layout-stretch-lts.After-narrow2 (layout-stretch-claims t) (layout-stretch-at t) layout-stretch.Post
 
-behind : (t : ℕ) (c : Narrowed t)
-    → (let s = c .before .before .before .before .before .before .before .before in
-    BranchAt (s .args .task .direction) (now (s .args .first)) (now (s .args .second)) (s .args .field + 1)
-    (record { point = c .before .before .before .before .with-value .result; firsts = c .before .before .narrow .result; seconds = c .narrow2 .result })
+behind : (t : ℕ) (c : Narrowed t) (g : ℕ)
+    → (let s = c .before .before .before .before .before .before .before .before in g ≡ s .args .branch .field + 1
+    → BranchAt (s .args .task .direction) (now (s .args .first)) (now (s .args .second)) g
+    (record { field = s .args .branch .field + 1; point = c .before .before .before .before .with-value .result; firsts = c .before .before .narrow .result; seconds = c .narrow2 .result })
     (c .before .before .narrow .last .1 .1 .1 .1 .1 .0) (c .narrow2 .last .1 .1 .1 .1 .1 .0))
-behind t c = let s = c .before .before .before .before .before .before .before .before in
-    branch-next _ _ _ _ _ (s .args .branch) _ _ _ _ _ (s .pre .1 .0 .0) (s .pre .1 .0 .1) (c .before .before .before .before .with-value .ensures) (c .before .before .narrow .ensures) (c .narrow2 .ensures)
+behind t c g e = let s = c .before .before .before .before .before .before .before .before in
+    branch-next _ _ _ _ _ (s .args .branch) _ _ _ _ _ g e (s .pre .1 .0 .0) (s .pre .1 .0 .1) (c .before .before .before .before .with-value .ensures) (c .before .before .narrow .ensures) (c .narrow2 .ensures)
 
 layout-stretch-add-inner : (t : ℕ) → layout-stretch-lts.Need-add-inner (layout-stretch-claims t) (layout-stretch-at t) layout-stretch.Post
 layout-stretch-add-inner t c = search needs
@@ -294,8 +294,8 @@ layout-stretch-leaf-requires : (t : ℕ) → layout-stretch-lts.Need-leaf-requir
 layout-stretch-leaf-requires t c κs =
     let n = c .before .before .before .before in
     let s = n .before .before .before .before .before .before .before .before in
-    let w = words-next (s .args .task .limit) (s .args .field) (s .pre .1 .0 .0) in
-    (omega (arith, s .pre .1 .1), rw (c .before .before .before .if1 .taken) at (behind t n))
+    let w = words-next (s .args .task .limit) (s .args .branch .field) (s .pre .1 .0 .0) in
+    (omega (arith, s .pre .1 .1), behind t n 5 (sym (c .before .before .before .if1 .taken)))
 
 layout-stretch-same-length : (t : ℕ) → layout-stretch-lts.Need-same-length (layout-stretch-claims t) (layout-stretch-at t) layout-stretch.Post
 layout-stretch-same-length t c = search needs
@@ -308,7 +308,7 @@ layout-stretch-returns t c = let n = c .before .before .before .before .before .
 layout-stretch-layout-field-requires : (t : ℕ) → layout-stretch-lts.Need-layout-field-requires (layout-stretch-claims t) (layout-stretch-at t) layout-stretch.Post
 layout-stretch-layout-field-requires t c κs = let n = c .before .before .before .before in
     let s = n .before .before .before .before .before .before .before .before in
-    (omega (arith, s .pre .0, s .pre .1 .0 .0), ((omega (arith, s .pre .1 .0 .0, c .before .before .before .if1 .left), behind t n), s .pre .1 .1))
+    (omega (arith, s .pre .0, s .pre .1 .0 .0), ((omega (arith, s .pre .1 .0 .0, c .before .before .before .if1 .left), behind t n _ refl), s .pre .1 .1))
 
 layout-stretch-same-length-2 : (t : ℕ) → layout-stretch-lts.Need-same-length-2 (layout-stretch-claims t) (layout-stretch-at t) layout-stretch.Post
 layout-stretch-same-length-2 t c = search needs
@@ -328,10 +328,10 @@ pub +layout-field+layout-stretch-spec : {M : Type 1} → statement M
     (layout-field-loop-holds t)
     (layout-field-interval-end-requires t)
     (layout-field-mul-base t)
-    (layout-field-mul-layout-stretch t)
-    (layout-field-sub-layout-stretch t)
-    (layout-field-part-layout-stretch-start t)
-    (layout-field-part-layout-stretch-end t)
+    (layout-field-mul-rest t)
+    (layout-field-sub-rest t)
+    (layout-field-part-rest-start t)
+    (layout-field-part-rest-end t)
     (layout-field-layout-stretch-requires t)
     (layout-field-enum-known-laid t)
     (layout-field-same-length t)
