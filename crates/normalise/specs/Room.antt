@@ -1,4 +1,4 @@
--- The room for a normal-form file, which is never too short, and what is printed stands at their start. Assumes nothing.
+-- The room for a normal-form file: it is never too short, and what is printed stands at its start. Assumes nothing.
 use Prim.Native.Nat.{ℕ, _+_, _*_, _≤_, _<_}
 use native.Mathlib.Omega.{arith}
 use native.Mathlib.Decide.{decLe}
