@@ -85,7 +85,7 @@ fn what_is_called_a_bad_row_is_refused() {
 }
 
 #[test]
-fn ranges_hold_a_packet_without_ports_afterthe_table_says_so() {
+fn ranges_hold_a_packet_without_ports_where_the_table_says_so() {
     let selectors = Selectors {
         local: Ipv4Addr::LOCALHOST,
         remote: Ipv4Addr::LOCALHOST,
