@@ -1,4 +1,4 @@
-// The gateway's packet calls (document 01, 'Three doors').
+// The gateway's packet calls (document 01, 'Three doors'; docs/RULES.md, 'The three packet calls').
 ghost use mathlib.Core.Path.{_≡_};
 ghost use Rattle.packet.specs.Read.{readTrigger};
 ghost use Rattle.sad.specs.Pairs.{pairs, fitsAt};

@@ -1,4 +1,4 @@
--- Normalising: the call for one direction, from a policy file to its normal-form file (document 01). Assumes nothing: these are definitions.
+-- Normalising: the call for one direction, from a policy file to its normal-form file (document 01; docs/RULES.md, 'Normalising'). Assumes nothing: these are definitions.
 use Prim.Native.Nat.{ℕ}
 use mathlib.Core.Bool.{cond}
 use mathlib.Core.List.{List, _++_}

@@ -1,4 +1,4 @@
--- What the gateway sees in a packet (document 01). Assumes nothing: these are definitions.
+-- What the gateway sees in a packet (document 01; docs/RULES.md, 'What is read in a packet'). Assumes nothing: these are definitions.
 use Prim.Native.Nat.{ℕ, _+_, _-_, _/_, min}
 use mathlib.Core.Bool.{Bool, cond, not, _&&_, _||_}
 use mathlib.Core.List.{List}

@@ -1,4 +1,4 @@
-// What the gateway sees in an IPv4 packet: five selectors, and what the packet calls need besides (document 01).
+// What the gateway sees in an IPv4 packet: five selectors, and what the packet calls need besides (document 01; docs/RULES.md, 'What is read in a packet').
 ghost use mathlib.Core.Path.{_≡_};
 ghost use Prim.Native.Nat.{_+_, _≤_, _<_, min};
 ghost use lib.ListN.{length};

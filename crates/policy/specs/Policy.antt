@@ -1,4 +1,4 @@
--- Policies: rows, the ordered search, and the normal form for one direction (document 01). Assumes nothing: these are definitions.
+-- Policies: rows, the ordered search, and the normal form for one direction (document 01; docs/RULES.md). Assumes nothing: these are definitions.
 use Prim.Native.Nat.{ℕ, suc}
 use mathlib.Core.Bool.{Bool, true, false, cond, _&&_}
 use mathlib.Core.List.{List, [], _∷_, map}

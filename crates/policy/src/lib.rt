@@ -1,4 +1,4 @@
-// Policies as rows of words in a flat slice, and the ordered search over them (document 01; RFC 4301's SPD).
+// Policies as rows of words in a flat slice, and the ordered search over them (document 01; RFC 4301's SPD; docs/RULES.md, 'The ordered search').
 ghost use mathlib.Core.Path.{_≡_};
 ghost use Prim.Native.Nat.{_+_, _≤_};
 ghost use lib.ListN.{length};

@@ -1,4 +1,4 @@
--- The policy file (document 01): from decimals up to the file. Assumes nothing: these are definitions.
+-- The policy file (document 01; docs/RULES.md has it with examples): from decimals up to the file. Assumes nothing: these are definitions.
 use Prim.Native.Nat.{ℕ, zero, suc, _+_, _-_, _*_, _%_, _^_}
 use mathlib.Core.Bool.{Bool, true, false, cond, not, _&&_, _||_}
 use mathlib.Core.List.{List, [], _∷_}

@@ -1,4 +1,4 @@
--- The printed policy file (document 01): header, then rows, way first. Assumes nothing: these are definitions.
+-- The printed policy file (document 01; docs/RULES.md, 'The printed form'): header, then rows, way first. Assumes nothing: these are definitions.
 use Prim.Native.Nat.{ℕ, zero, suc, _+_, _/_, _%_, _^_}
 use mathlib.Core.Bool.{cond}
 use mathlib.Core.List.{List, [], _∷_, _++_}

@@ -1,4 +1,4 @@
-// The format of policy files (document 01): texts, cuts at a byte, and decimals; specs/ has the whole format.
+// The format of policy files (document 01; docs/RULES.md, 'The policy file'): texts, cuts at a byte, and decimals; specs/ has the whole format.
 ghost use mathlib.Core.Path.{_≡_};
 ghost use Prim.Native.Nat.{_≤_, _<_};
 ghost use lib.ListN.{length};

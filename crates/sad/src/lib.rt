@@ -1,4 +1,4 @@
-// The table of SA pairs (RFC 4301's SAD): 64 places in lent words, and the calls that add, remove and find a pair (document 01).
+// The table of SA pairs (RFC 4301's SAD): 64 places in lent words, and the calls that add, remove and find a pair (document 01; docs/RULES.md, 'SA pairs').
 ghost use mathlib.Core.Path.{_≡_};
 ghost use mathlib.Core.Bool.{_&&_};
 ghost use Prim.Native.Nat.{_+_, _*_, _≤_, _<_};

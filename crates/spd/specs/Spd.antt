@@ -1,4 +1,4 @@
--- The words of a gateway that holds a policy, and policy acceptance (document 01). Assumes nothing: these are definitions.
+-- The words of a gateway that holds a policy, and policy acceptance (document 01; docs/RULES.md, 'The order of checks'). Assumes nothing: these are definitions.
 use Prim.Native.Nat.{ℕ}
 use mathlib.Core.Bool.{cond}
 use mathlib.Core.List.{List, _∷_, _++_}

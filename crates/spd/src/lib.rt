@@ -1,4 +1,4 @@
-// A fresh gateway's policy, and policy acceptance (document 01).
+// A fresh gateway's policy, and policy acceptance (document 01; docs/RULES.md, 'The order of checks').
 ghost use mathlib.Core.Path.{_≡_};
 ghost use mathlib.Core.List.{[]};
 ghost use Prim.Native.Nat.{_+_, _≤_};

@@ -1,4 +1,4 @@
-// The SPD cache of one direction: 32 slots for normal-form rows, by value (document 01).
+// The SPD cache of one direction: 32 slots for normal-form rows, by value (document 01; docs/RULES.md, 'The slot rule').
 ghost use mathlib.Core.Path.{_≡_};
 ghost use Prim.Native.Nat.{_+_, _*_, _≤_, _<_, min, max};
 ghost use lib.ListN.{length};

@@ -1,4 +1,4 @@
--- Document 01's table of answers for packets: the number of each verdict, and what it carries. Assumes nothing: these are definitions.
+-- Document 01's table of answers for packets (docs/RULES.md, 'Answers'): the number of each verdict, and what it carries. Assumes nothing: these are definitions.
 use Prim.Native.Nat.{ℕ}
 use mathlib.Core.List.{List, [], _∷_}
 use Rattle.verdicts.specs.declared.Verdict.{Verdict}
