@@ -158,7 +158,8 @@ fn definitions() -> Vec<String> {
         entries.map(|entry| format!("{folder}/{}", entry.file_name().to_string_lossy())).collect()
     };
     let files = names("crates").into_iter().flat_map(|folder| names(&format!("{folder}/specs")));
-    let define = |file: &String| text(file).is_some_and(|it| it.contains("these are definitions"));
+    let says = |text: String| text.replace("\n-- ", " ").contains("these are definitions");
+    let define = |file: &String| text(file).is_some_and(says);
     files.filter(define).collect()
 }
 
