@@ -92,7 +92,11 @@ fn kinds_of(cited: &Cited, file: &str) -> Vec<&'static str> {
 fn faults(row: &str) -> Vec<String> {
     let fault = |cited: Cited| {
         let name = cited.name.unwrap_or_default();
-        let Some(file) = text(cited.file) else { return Some(format!("no {}", cited.file)) };
+        // A folder of tests is cited without names.
+        let folder = root().join(cited.file).is_dir().then(String::new);
+        let Some(file) = text(cited.file).or(folder) else {
+            return Some(format!("no {}", cited.file));
+        };
         if !file.contains(name) {
             return Some(format!("no {name} in {}", cited.file));
         }
@@ -124,6 +128,8 @@ fn what_is_wrong_is_seen() {
     assert_eq!(wrong("defined `crates/selectors/specs/RangeLaws.antt` `opaque-alone`"), 1);
     assert_eq!(wrong("proved `crates/packet/specs/Read.antt` `nothing`"), 1);
     assert_eq!(wrong("run `crates/selectors/src/lib.rt` `pub const ANY`"), 1);
+    assert_eq!(wrong("run `rust/testkit/tests`"), 0);
+    assert_eq!(wrong("run `rust/testkit/tests` `claims`"), 1);
 }
 
 #[test]
