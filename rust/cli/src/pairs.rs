@@ -32,6 +32,6 @@ fn pair(line: &str) -> Option<Pair> {
         inbound_spi: fields.next()?.parse().ok()?,
         outbound_spi: fields.next()?.parse().ok()?,
         number: fields.next()?.parse().ok()?,
-        ranges: Ranges::parse(fields.next()?)?,
+        ranges: Ranges::parse(fields.next()?).ok()?,
     })
 }
