@@ -61,6 +61,7 @@ uint64_t specksonne_abi_1(void);
 #define SPECKSONNE_KEPT __attribute__((used))
 #endif
 static uint64_t (*const specksonne_abi_wanted)(void) SPECKSONNE_KEPT = specksonne_abi_1;
+#undef SPECKSONNE_KEPT
 
 /* Directions: 1 is out, and any other number in. */
 #define SPECKSONNE_OUT 1

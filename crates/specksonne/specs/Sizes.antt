@@ -21,8 +21,8 @@ tableSize = placeCount * placeWords
 abbrev pub cacheSize : ℕ
 cacheSize = slotCount * rowWords + 2
 
--- Bytes that hold every printed row: two addresses of 31, two ports of 12, a protocol of 7, an action of 11, a direction of 3, tabs and LF
--- make 114.
+-- Bytes that are enough for a printed row; counted, not proved: two ranges of addresses of 31, two of ports of 12, one of protocols of 7, an
+-- action of 11, a direction of 3, six tabs and LF make 114.
 abbrev pub rowBytes : ℕ
 rowBytes = 120
 

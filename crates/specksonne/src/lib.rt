@@ -1,4 +1,4 @@
-// The library that C and Rust programs link: each exported function hands numbers and lent words on to one proved call.
+// The library that C and Rust programs link: what it says of itself, and functions that hand numbers and lent words on to one proved call each.
 ghost use mathlib.Core.Path.{_≡_};
 ghost use mathlib.Core.List.{[], map};
 ghost use lib.ListN.{length, replicate};
@@ -40,7 +40,7 @@ const TABLE_WORDS: usize = PLACES * PLACE_WORDS;
 
 const CACHE_WORDS: usize = SLOTS * ROW_WORDS + 2;
 
-// Bytes that hold every printed row, and every normal-form file: its header line and the limit's rows.
+// Bytes that are enough for a printed row, and for a normal-form file: its header line and the limit's rows.
 const ROW_BYTES: usize = 120;
 
 const MOST_FORM_BYTES: usize = 9 + LIMIT * ROW_BYTES;

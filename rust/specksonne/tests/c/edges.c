@@ -1,6 +1,7 @@
 /*
  * What the header says, held against the library: its constants are those that the library was
- * built with, and a pointer beside the count 0 may be null. Prints what is otherwise.
+ * built with, a pointer beside the count 0 may be null, and a cache that an accepted policy does
+ * not empty is emptied by zeros. Prints what is otherwise.
  */
 #include "specksonne.h"
 
@@ -76,10 +77,30 @@ static void null_packets(void) {
     expect("trigger", specksonne_trigger(NULL, 0, two), false);
 }
 
+static void further_caches(void) {
+    static uint64_t policy[SPECKSONNE_POLICY_WORDS], table[SPECKSONNE_TABLE_WORDS];
+    static uint64_t outbound[SPECKSONNE_CACHE_WORDS], inbound[SPECKSONNE_CACHE_WORDS];
+    static uint64_t further[SPECKSONNE_CACHE_WORDS];
+    static const uint8_t packet[20] = {0x45, 0, 0, sizeof packet};
+    uint64_t word, carries[3];
+
+    specksonne_fresh(policy, table, outbound, inbound, 1);
+    specksonne_policy(policy, outbound, inbound, one_row, LENGTH(one_row), &word);
+    expect("passes", specksonne_outbound(policy, table, outbound, packet, 20, carries), 0);
+    expect("passes too", specksonne_outbound(policy, table, further, packet, 20, carries), 0);
+    specksonne_policy(policy, outbound, inbound, no_rows, LENGTH(no_rows), &word);
+    expect("stale", specksonne_outbound(policy, table, further, packet, 20, carries), 0);
+    memset(further, 0, sizeof further);
+    expect("emptied", specksonne_outbound(policy, table, further, packet, 20, carries), 11);
+    expect("emptied by the policy",
+           specksonne_outbound(policy, table, outbound, packet, 20, carries), 11);
+}
+
 int main(void) {
     constants();
     null_files();
     null_rows();
     null_packets();
+    further_caches();
     return wrong;
 }
