@@ -12,9 +12,10 @@ const MOST_BYTES: usize = 66_000;
 
 impl Generator {
     pub fn header_lines(&mut self) {
-        match self.prng.below(20) {
+        match self.prng.below(10) {
             0 => self.long_packets(),
-            1..=7 => self.every_truncation(),
+            1..=3 => self.every_truncation(),
+            4 | 5 => self.every_address_bit(),
             _ => self.every_flag_and_offset_bit(),
         }
     }
@@ -62,6 +63,17 @@ impl Generator {
             self.line(format!("from {ESP} {} {}", pair.inbound_spi, to_hex(&error)));
         }
         self.line(format!("remove {ESP} {}", pair.inbound_spi));
+    }
+
+    /// AH or ESP for the gateway, but for each one bit of its address.
+    fn every_address_bit(&mut self) {
+        let mut packet = self.gateway_packet();
+        for bit in 0..32 {
+            packet.destination = self.gateway ^ 1 << bit;
+            self.line(format!("in {}", to_hex(&packet.bytes())));
+        }
+        packet.destination = self.gateway;
+        self.line(format!("in {}", to_hex(&packet.bytes())));
     }
 
     /// Values that a packet can show, with ports of which no two bytes are alike, and none 0.

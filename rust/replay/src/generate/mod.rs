@@ -8,7 +8,7 @@ mod packets;
 mod pairs;
 pub mod policies;
 pub mod rows;
-mod same;
+pub mod same;
 
 use crate::operation::to_hex;
 use pairs::PairSpec;

@@ -32,7 +32,7 @@ impl Generator {
 }
 
 /// The rows with one thing changed, or none; often it changes nothing in the search.
-fn varied(prng: &mut Prng, rows: &[RowSpec]) -> Vec<RowSpec> {
+pub fn varied(prng: &mut Prng, rows: &[RowSpec]) -> Vec<RowSpec> {
     let mut varied = rows.to_vec();
     let kind = prng.below(10);
     if kind < 2 || rows.is_empty() {
