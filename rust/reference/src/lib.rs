@@ -25,18 +25,20 @@ mod pairs;
 mod policy;
 mod policy_file;
 mod requests;
+mod same;
 mod selectors;
 
 pub use answer::Answer;
 pub use cache::{Cache, SLOTS};
 pub use gateway::Gateway;
-pub use normal_form::{normal_form, OverLimit};
+pub use normal_form::{normal_form, same_search, OverLimit};
 pub use normalise::normalise;
 pub use packet::Packet;
 pub use pairs::{Pair, PairName, PairTable, ProposedPair, AH, ESP, MOST_PAIRS};
 pub use policy::{search, Action, Entry, Policy, Row, Scope};
 pub use policy_file::{parse_policy, print_action, print_policy, print_row};
 pub use requests::Requests;
+pub use same::{same, RefusedFile};
 pub use selectors::{
     absent_or, Direction, Range, Ranges, Selectors, Value, Values, ABSENT_PORT, FIELDS, FIELD_TOPS,
 };

@@ -24,6 +24,50 @@ pub fn normal_form<const N: usize>(
     Ok(rows)
 }
 
+/// Whether the ordered searches of two lists give the same action at every combination.
+pub fn same_search<const N: usize>(
+    tops: &[Value; N],
+    one: &[Entry<N>],
+    other: &[Entry<N>],
+) -> bool {
+    let everything = tops.map(|top| Range::new(0, top));
+    let other = sharing(one, other);
+    agree(0, &everything, &one.iter().collect::<Entries<N>>(), &other)
+}
+
+/// The entries of `other`, those that `one` has too taken from there, as many as keep their order.
+fn sharing<'a, const N: usize>(one: &'a [Entry<N>], other: &'a [Entry<N>]) -> Entries<'a, N> {
+    let common = common_behind(one, other);
+    let (mut shared, mut at) = (Vec::new(), 0);
+    while shared.len() < other.len() {
+        let place = shared.len();
+        if at < one.len() && one[at] == other[place] {
+            shared.push(&one[at]);
+            at += 1;
+        } else if at < one.len() && common[at + 1][place] >= common[at][place + 1] {
+            at += 1;
+        } else {
+            shared.push(&other[place]);
+        }
+    }
+    shared
+}
+
+/// How many entries two lists can share in order, from each place of the one and of the other on.
+fn common_behind<const N: usize>(one: &[Entry<N>], other: &[Entry<N>]) -> Vec<Vec<usize>> {
+    let mut common = vec![vec![0; other.len() + 1]; one.len() + 1];
+    for at in (0..one.len()).rev() {
+        for place in (0..other.len()).rev() {
+            common[at][place] = if one[at] == other[place] {
+                common[at + 1][place + 1] + 1
+            } else {
+                common[at + 1][place].max(common[at][place + 1])
+            };
+        }
+    }
+    common
+}
+
 /// Some of the entries, in the order of the search.
 type Entries<'a, const N: usize> = Vec<&'a Entry<N>>;
 
@@ -82,7 +126,8 @@ fn runs<const N: usize>(field: usize, part: &[Range; N], entries: &[&Entry<N>]) 
 }
 
 /// Whether the searches of two lists give the same action, whatever the fields from `field` on
-/// hold of the part.
+/// hold of the part. An entry that stands in both is the same one in memory, and those that do have
+/// one order.
 fn agree<const N: usize>(
     field: usize,
     part: &[Range; N],
@@ -99,17 +144,24 @@ fn agree<const N: usize>(
     if narrower != *part {
         return agree(field, &narrower, &one, &other);
     }
-    let partly_first = |list: &[&'_ Entry<N>]| {
-        let first = list.first().map(|entry| entry.ranges);
-        first.filter(|ranges| !holds_all(field, part, ranges))
-    };
-    match partly_first(&one).or(partly_first(&other)) {
-        Some(ranges) => {
-            let parts = split(field, part, &ranges);
+    let holds_a_part = |entry: &&Entry<N>| !holds_all(field, part, &entry.ranges);
+    let parter = parting.iter().copied().find(holds_a_part);
+    if parter.is_none() && said_last(field, part, &one) == said_last(field, part, &other) {
+        return true;
+    }
+    match parter.or(one.first().copied().filter(holds_a_part)) {
+        Some(entry) => {
+            let parts = split(field, part, &entry.ranges);
             parts.iter().all(|part| agree(field, part, &one, &other))
         }
-        None => action_of(&one) == action_of(&other),
+        None => false,
     }
+}
+
+/// The action where no entry holds but one that holds all of the part.
+fn said_last<const N: usize>(field: usize, part: &[Range; N], entries: &[&Entry<N>]) -> Action {
+    let last = entries.last().filter(|last| holds_all(field, part, &last.ranges));
+    last.map_or(Action::Discard, |last| last.action)
 }
 
 /// Whether the entries of both lists, and the discarding where none of them holds, are all one
@@ -123,9 +175,7 @@ fn all_say_the_same<const N: usize>(
     let mut said = Vec::new();
     for list in [one, other] {
         said.extend(list.iter().map(|entry| entry.action));
-        if !list.last().is_some_and(|last| holds_all(field, part, &last.ranges)) {
-            said.push(Action::Discard);
-        }
+        said.push(said_last(field, part, list));
     }
     said.iter().all(|action| *action == said[0])
 }

@@ -1,6 +1,6 @@
 //! The normal form against document 01's definition, by brute force over tiny fields.
 
-use reference::{normal_form, search, Action, Entry, OverLimit, Range, Value};
+use reference::{normal_form, same_search, search, Action, Entry, OverLimit, Range, Value};
 use std::collections::HashMap;
 use testkit::Prng;
 
@@ -150,6 +150,55 @@ fn random_policies_over_fields_of_2_5_1_3() {
 #[test]
 fn random_policies_over_five_fields() {
     check_random_policies([2, 1, 2, 1, 2], 3, 4_000);
+}
+
+/// Nearly the same entries: in another order, one left out, one with another action or end.
+fn nearly<const N: usize>(
+    prng: &mut Prng,
+    tops: &[Value; N],
+    entries: &[Entry<N>],
+) -> Vec<Entry<N>> {
+    let mut entries = entries.to_vec();
+    for _ in 0..prng.below(3) {
+        if entries.is_empty() {
+            break;
+        }
+        let count = entries.len() as u64;
+        let [place, another] = [prng.below(count), prng.below(count)].map(|place| place as usize);
+        let field = prng.below(N as u64) as usize;
+        match prng.below(5) {
+            0 => entries.swap(place, another),
+            1 => drop(entries.remove(place)),
+            2 => entries[place].action = *prng.pick(&ACTIONS),
+            3 => entries.insert(place, entries[another]),
+            _ => entries[place].ranges[field] = random_range(prng, tops[field]),
+        }
+    }
+    entries
+}
+
+/// Two lists are the same search exactly where every combination has the same action.
+fn check_same_search<const N: usize>(tops: [Value; N], seed: u64, count: usize) {
+    let mut prng = Prng::new(seed);
+    let mut met = [0, 0];
+    for _ in 0..count {
+        let one = random_entries(&mut prng, &tops);
+        let other = nearly(&mut prng, &tops, &one);
+        let same = searched(&tops, &one) == searched(&tops, &other);
+        assert_eq!(same_search(&tops, &one, &other), same, "{one:?} {other:?}");
+        assert_eq!(same_search(&tops, &other, &one), same, "{other:?} {one:?}");
+        let form = whole_form(&tops, &one);
+        assert!(same_search(&tops, &one, &form) && same_search(&tops, &form, &one));
+        met[usize::from(same)] += 1;
+    }
+    assert!(met.iter().all(|&times| times > count / 10), "{met:?}");
+}
+
+#[test]
+fn two_searches_are_compared_everywhere() {
+    check_same_search([3, 2, 2], 4, 20_000);
+    check_same_search([1, 4, 0, 2], 5, 10_000);
+    check_same_search([2, 1, 2, 1, 2], 6, 4_000);
 }
 
 /// All 3^8 searches over three fields of two values: each has its own form.

@@ -3,6 +3,8 @@
 use replay::engine::EngineName;
 use replay::generate::{Kind, Recipe, DEFAULT_OPERATIONS, DEFAULT_SEED};
 use replay::run::Mode;
+use std::ffi::OsString;
+use testkit::Argument;
 
 pub const HELP: &str = "\
 replay --engine core|reference [--coverage] [FILE ...]
@@ -15,9 +17,11 @@ replay --generate KIND [--seed N] [--ops N] [--items N,N,...]
     KIND is policies, defects, bytes, packets, pairs, mixed, or all
     --items names the requests of document 02 that the scenario expects
 replay --help
+replay --version
 
---coverage writes a line to standard error at the end: how often each answer was given.
-Every FILE is a scenario of its own and starts afresh.
+--coverage writes a line to standard error at the end: how often each answer was given, and each
+outcome of comparing two policies. Every FILE is a scenario of its own and starts afresh; - is
+standard input. An option's value may also be written --option=value.
 
 exit status: 0 all done; 1 a line was no operation; 2 could not run (the arguments, or a file); 3
 the engines differ
@@ -26,7 +30,8 @@ the engines differ
 /// What the arguments ask for.
 pub enum Task {
     Help,
-    Run { mode: Mode, coverage: bool, files: Vec<String> },
+    Version,
+    Run { mode: Mode, coverage: bool, files: Vec<OsString> },
     Generate(Recipe),
 }
 
@@ -34,48 +39,52 @@ pub enum Task {
 #[derive(Default)]
 struct Arguments {
     help: bool,
+    version: bool,
     mode: Option<Mode>,
     coverage: bool,
-    files: Vec<String>,
+    files: Vec<OsString>,
     kind: Option<Kind>,
     seed: Option<u64>,
     operations: Option<u64>,
     items: Option<Vec<u64>>,
 }
 
-pub fn parse(mut arguments: impl Iterator<Item = String>) -> Result<Task, String> {
+pub fn parse(arguments: impl Iterator<Item = OsString>) -> Result<Task, String> {
     let mut parsed = Arguments::default();
-    while let Some(argument) = arguments.next() {
-        parsed.take(argument, &mut arguments)?;
+    let mut rest = testkit::Arguments::new(arguments);
+    while let Some(argument) = rest.take()? {
+        match argument {
+            Argument::Option(name) => parsed.option(&name, || rest.value())?,
+            Argument::Word(file) => parsed.files.push(file),
+        }
     }
     parsed.task()
 }
 
 impl Arguments {
-    /// Takes one argument, and its value from `rest` where it has one.
-    fn take(
+    /// Takes one option, and its value where it has one.
+    fn option(
         &mut self,
-        argument: String,
-        rest: &mut impl Iterator<Item = String>,
+        option: &str,
+        value: impl FnOnce() -> Result<String, String>,
     ) -> Result<(), String> {
-        let mut value = || rest.next().ok_or(format!("{argument} needs a value"));
-        match argument.as_str() {
+        match option {
             "--help" => self.help = true,
+            "--version" => self.version = true,
             "--coverage" => self.coverage = true,
-            "--compare" => set_once(&mut self.mode, Mode::Compare, &argument)?,
+            "--compare" => set_once(&mut self.mode, Mode::Compare, option)?,
             "--engine" => {
                 let engine = named(EngineName::parse, &value()?)?;
-                set_once(&mut self.mode, Mode::Single(engine), &argument)?;
+                set_once(&mut self.mode, Mode::Single(engine), option)?;
             }
-            "--generate" => set_once(&mut self.kind, named(Kind::parse, &value()?)?, &argument)?,
-            "--seed" => set_once(&mut self.seed, number(&value()?)?, &argument)?,
-            "--ops" => set_once(&mut self.operations, number(&value()?)?, &argument)?,
+            "--generate" => set_once(&mut self.kind, named(Kind::parse, &value()?)?, option)?,
+            "--seed" => set_once(&mut self.seed, number(&value()?)?, option)?,
+            "--ops" => set_once(&mut self.operations, number(&value()?)?, option)?,
             "--items" => {
                 let numbers = value()?.split(',').map(number).collect::<Result<_, _>>()?;
-                set_once(&mut self.items, numbers, &argument)?;
+                set_once(&mut self.items, numbers, option)?;
             }
-            option if option.starts_with('-') => return Err(format!("no option {option}")),
-            _ => self.files.push(argument),
+            _ => return Err(format!("no option {option}")),
         }
         Ok(())
     }
@@ -85,6 +94,7 @@ impl Arguments {
         let runs = self.coverage || !self.files.is_empty();
         match (self.mode, self.kind) {
             _ if self.help => Ok(Task::Help),
+            _ if self.version => Ok(Task::Version),
             (Some(mode), None) if !generates => {
                 Ok(Task::Run { mode, coverage: self.coverage, files: self.files })
             }
@@ -108,9 +118,9 @@ fn number(text: &str) -> Result<u64, String> {
     text.parse().map_err(|_| format!("{text:?} is no number"))
 }
 
-fn set_once<T>(place: &mut Option<T>, value: T, argument: &str) -> Result<(), String> {
+fn set_once<T>(place: &mut Option<T>, value: T, option: &str) -> Result<(), String> {
     match place.replace(value) {
         None => Ok(()),
-        Some(_) => Err(format!("{argument} is one too many")),
+        Some(_) => Err(format!("{option} is one too many")),
     }
 }

@@ -2,10 +2,10 @@
 
 use crate::engine::Engine;
 use crate::operation::{Family, Operation};
-use crate::reply::{AnswerLine, Reply};
+use crate::reply::{AnswerLine, Comparison, Reply};
 use reference::{Direction, ProposedPair, Values, ABSENT_PORT};
-use specksonne::{normalise_into, read, triggering_header};
-use specksonne::{Gateway, Pair, Policy, Ranges, Refusal, Selectors, Verdict};
+use specksonne::{normalise_into, read, same_policy, triggering_header};
+use specksonne::{Gateway, Pair, Policy, Ranges, Refusal, Refused, Selectors, Verdict};
 use std::net::Ipv4Addr;
 
 /// The requests of document 02 that the proved library follows.
@@ -65,6 +65,9 @@ impl Engine for CoreEngine {
             Operation::Normalise { direction, room, file } => Reply::from_print(*room, |lent| {
                 printed(normalise_into(file, direction_of(*direction), lent))
             }),
+            Operation::Same { direction, first, second } => {
+                compared(same_policy(first, second, direction_of(*direction)))
+            }
             Operation::Read { direction, family: Family::Ipv4, packet } => {
                 shown(read(packet, direction_of(*direction)))
             }
@@ -155,6 +158,14 @@ fn printed(outcome: Result<usize, Refusal>) -> (AnswerLine, Option<usize>) {
         }
         Err(refusal) => (refusal_line(refusal), None),
     }
+}
+
+fn compared(outcome: Result<bool, Refused>) -> Reply {
+    Reply::Comparison(match outcome {
+        Ok(same) => Comparison::of(same),
+        Err(Refused::First(refusal)) => Comparison::First(refusal_line(refusal)),
+        Err(Refused::Second(refusal)) => Comparison::Second(refusal_line(refusal)),
+    })
 }
 
 fn refused(refusal: Refusal) -> Reply {

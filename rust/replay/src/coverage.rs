@@ -1,6 +1,6 @@
-//! How often each answer of document 01 was given.
+//! How often each answer of document 01 was given, and each outcome of comparing two policies.
 
-use crate::reply::Reply;
+use crate::reply::{Comparison, Reply};
 use std::collections::BTreeMap;
 use std::fmt;
 
@@ -11,24 +11,37 @@ pub const ANSWERS: [u8; 26] = [
 ];
 
 pub struct Coverage {
-    counts: BTreeMap<u8, usize>,
+    answers: BTreeMap<u8, usize>,
+    comparisons: [usize; Comparison::WORDS.len()],
 }
 
 impl Coverage {
     pub fn new() -> Coverage {
-        Coverage { counts: ANSWERS.map(|number| (number, 0)).into() }
+        let answers = ANSWERS.map(|number| (number, 0)).into();
+        Coverage { answers, comparisons: [0; Comparison::WORDS.len()] }
     }
 
     pub fn count(&mut self, reply: &Reply) {
-        if let Reply::Answer(answer) = reply {
-            *self.counts.entry(answer.number).or_insert(0) += 1;
+        match reply {
+            Reply::Answer(answer) => *self.answers.entry(answer.number).or_insert(0) += 1,
+            Reply::Comparison(comparison) => {
+                let words = Comparison::WORDS.iter().zip(&mut self.comparisons);
+                words.filter(|(word, _)| **word == comparison.word()).for_each(|(_, n)| *n += 1);
+            }
+            _ => {}
         }
     }
 
-    /// The answers that were never given.
-    pub fn missing(&self) -> Vec<u8> {
-        let unseen = self.counts.iter().filter(|(_, &count)| count == 0);
-        unseen.map(|(&number, _)| number).collect()
+    /// Each answer's number, then each word for a comparison, and how often it was given.
+    fn counts(&self) -> impl Iterator<Item = (String, usize)> + '_ {
+        let answers = self.answers.iter().map(|(number, &count)| (number.to_string(), count));
+        let words = Comparison::WORDS.iter().map(|word| word.to_string());
+        answers.chain(words.zip(self.comparisons))
+    }
+
+    /// What was never given.
+    pub fn missing(&self) -> Vec<String> {
+        self.counts().filter(|(_, count)| *count == 0).map(|(name, _)| name).collect()
     }
 }
 
@@ -39,9 +52,9 @@ impl Default for Coverage {
 }
 
 impl fmt::Display for Coverage {
-    /// One line: each answer's number and how often it was given.
+    /// One line.
     fn fmt(&self, f: &mut fmt::Formatter) -> fmt::Result {
         write!(f, "coverage:")?;
-        self.counts.iter().try_for_each(|(number, count)| write!(f, " {number}={count}"))
+        self.counts().try_for_each(|(name, count)| write!(f, " {name}={count}"))
     }
 }

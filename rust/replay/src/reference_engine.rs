@@ -2,10 +2,10 @@
 
 use crate::engine::Engine;
 use crate::operation::{Family, Operation};
-use crate::reply::{AnswerLine, Reply};
+use crate::reply::{AnswerLine, Comparison, Reply};
 use reference::{
-    normalise, parse_policy, print_action, print_row, Answer, Direction, Gateway, Packet, Requests,
-    Values,
+    normalise, parse_policy, print_action, print_row, same, Answer, Direction, Gateway, Packet,
+    RefusedFile, Requests, Values,
 };
 
 pub struct ReferenceEngine {
@@ -98,6 +98,9 @@ impl Engine for ReferenceEngine {
             Operation::Normalise { direction, room, file } => Reply::from_print(*room, |lent| {
                 print_reply(normalise(file, *direction, lent, self.requests))
             }),
+            Operation::Same { direction, first, second } => {
+                compared(same(first, second, *direction, self.requests))
+            }
             Operation::Read { direction, family: Family::Ipv4, packet } => {
                 self.read(*direction, packet)
             }
@@ -121,6 +124,14 @@ impl Engine for ReferenceEngine {
 
 fn reply(answer: Answer) -> Reply {
     Reply::Answer(answer_line(answer))
+}
+
+fn compared(outcome: Result<bool, RefusedFile>) -> Reply {
+    Reply::Comparison(match outcome {
+        Ok(same) => Comparison::of(same),
+        Err(RefusedFile::First(refusal)) => Comparison::First(answer_line(refusal)),
+        Err(RefusedFile::Second(refusal)) => Comparison::Second(answer_line(refusal)),
+    })
 }
 
 /// The answer of a call that prints, and the count of bytes it says it wrote.

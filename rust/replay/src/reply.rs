@@ -11,6 +11,8 @@ pub const ROOM_FILL: u8 = 0xee;
 pub enum Reply {
     /// An answer of document 01.
     Answer(AnswerLine),
+    /// What the comparison of two policy files says.
+    Comparison(Comparison),
     /// A line of the protocol's own.
     Words(String),
     /// The engine lacks what the operation needs.
@@ -26,6 +28,38 @@ pub struct AnswerLine {
     pub carried: Vec<String>,
     /// The bytes written, for a call that prints.
     pub printed: Option<Vec<u8>>,
+}
+
+/// What two policy files are to each other, or the first of them that is refused.
+#[derive(Clone, Debug, PartialEq, Eq)]
+pub enum Comparison {
+    Same,
+    Different,
+    First(AnswerLine),
+    Second(AnswerLine),
+}
+
+impl Comparison {
+    /// The word of each, as [`Comparison::word`] gives it.
+    pub const WORDS: [&'static str; 4] = ["same", "different", "first", "second"];
+
+    pub fn of(same: bool) -> Comparison {
+        if same {
+            Comparison::Same
+        } else {
+            Comparison::Different
+        }
+    }
+
+    pub fn word(&self) -> &'static str {
+        let place = match self {
+            Comparison::Same => 0,
+            Comparison::Different => 1,
+            Comparison::First(_) => 2,
+            Comparison::Second(_) => 3,
+        };
+        Comparison::WORDS[place]
+    }
 }
 
 impl Reply {
@@ -70,11 +104,22 @@ impl fmt::Display for Reply {
     fn fmt(&self, f: &mut fmt::Formatter) -> fmt::Result {
         match self {
             Reply::Answer(answer) => write!(f, "= {answer}"),
+            Reply::Comparison(comparison) => write!(f, "= {comparison}"),
             Reply::Words(words) if words.is_empty() => write!(f, "="),
             Reply::Words(words) => write!(f, "= {words}"),
             Reply::NotHere => write!(f, "= not here"),
             Reply::BadOperation => write!(f, "= bad operation"),
             Reply::Spoilt => write!(f, "= spoilt"),
+        }
+    }
+}
+
+impl fmt::Display for Comparison {
+    fn fmt(&self, f: &mut fmt::Formatter) -> fmt::Result {
+        write!(f, "{}", self.word())?;
+        match self {
+            Comparison::First(refusal) | Comparison::Second(refusal) => write!(f, " {refusal}"),
+            Comparison::Same | Comparison::Different => Ok(()),
         }
     }
 }

@@ -1,5 +1,7 @@
 //! The program as it is called.
 
+use std::ffi::OsString;
+use std::os::unix::ffi::OsStringExt;
 use std::process::Output;
 use testkit::run;
 
@@ -79,7 +81,12 @@ fn arguments() {
     let help = replay(&["--help"], "");
     assert_eq!(help.status.code(), Some(0));
     assert!(text(&help.stdout).contains("--generate KIND"));
-    let bad: [&[&str]; 13] = [
+    let version = concat!("replay ", env!("CARGO_PKG_VERSION"), "\n");
+    check(&replay(&["--version"], ""), 0, version, "");
+    check(&replay(&["--engine=reference", "-"], "out -\n"), 0, "= 10\n", "");
+    let generate = ["--generate=all", "--seed=3", "--ops=1", "--items=2,7"];
+    assert!(text(&replay(&generate, "").stdout).ends_with("\nitems 2 7\n"));
+    let bad: [&[&str]; 18] = [
         &[],
         &["--engine"],
         &["--engine", "other"],
@@ -93,8 +100,44 @@ fn arguments() {
         &["--generate", "all", "--items", "2,x"],
         &["--engine", "reference", "--items", "2"],
         &["--nonsense"],
+        &["--engine", "core", "--version=1"],
+        &["--compare=core"],
+        &["--generate=all", "--seed="],
+        &["--engine=core", "--coverage=yes"],
+        &["--help=me"],
     ];
     for arguments in bad {
         check(&replay(arguments, ""), 2, "", "replay: ");
     }
+    check(&replay(&["--compare", "--nonsense=3"], ""), 2, "", "no option --nonsense;");
+    check(&replay(&["--compare", "-x"], ""), 2, "", "no option -x;");
+    check(&replay(&["--compare", "/"], ""), 2, "", "replay: /: ");
+}
+
+/// Arguments of any bytes, in any place where one can stand.
+#[test]
+fn no_argument_makes_it_panic() {
+    let options =
+        ["--engine", "--generate", "--seed", "--ops", "--items", "--coverage", "--x", "-"];
+    check_refused(&["--compare".into(), "".into()]);
+    let strange: [&[u8]; 4] = [b"\xff", b"\xc3(", b"=\n\x80", b"18446744073709551616"];
+    for strange in strange {
+        let alone = OsString::from_vec(strange.to_vec());
+        check_refused(&[alone.clone()]);
+        check_refused(&["--compare".into(), alone.clone()]);
+        for option in options {
+            check_refused(&[option.into(), alone.clone()]);
+            for between in [b"=".as_slice(), b""] {
+                let joined = [option.as_bytes(), between, strange].concat();
+                check_refused(&["--compare".into(), OsString::from_vec(joined)]);
+            }
+        }
+    }
+}
+
+#[track_caller]
+fn check_refused(arguments: &[OsString]) {
+    let output = run(env!("CARGO_BIN_EXE_replay"), arguments, b"");
+    assert_eq!(output.status.code(), Some(2), "{arguments:?}");
+    assert!(output.stderr.starts_with(b"replay: "), "{arguments:?}");
 }

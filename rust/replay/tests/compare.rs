@@ -4,7 +4,7 @@ use replay::coverage::Coverage;
 use replay::engine::{Engine, EngineName};
 use replay::generate::{generate, Kind, Recipe};
 use replay::operation::Operation;
-use replay::reply::{AnswerLine, Reply};
+use replay::reply::{AnswerLine, Comparison, Reply};
 use replay::run::{difference, run_engines, Difference, End};
 use replay::shrink::shortest;
 
@@ -56,6 +56,29 @@ fn a_faulty_engine_is_found_where_it_errs() {
     // The comment line has no answer, and neither has the line that differs.
     assert_eq!(output.lines().count(), line_number - 2);
     assert!(!output.lines().any(|line| line == "= 12"));
+}
+
+/// The reference with another defect: to it, policies that differ are the same.
+struct Careless(Box<dyn Engine>);
+
+impl Engine for Careless {
+    fn run(&mut self, operation: &Operation) -> Reply {
+        match self.0.run(operation) {
+            Reply::Comparison(Comparison::Different) => Reply::Comparison(Comparison::Same),
+            reply => reply,
+        }
+    }
+}
+
+#[test]
+fn a_careless_comparison_is_found() {
+    let mut careless = Careless(EngineName::Reference.start());
+    let (end, _) = compare(&scenario(), &mut careless);
+    let End::Differs(Difference { operation, core, reference, .. }) = end else {
+        panic!("the fault was not found");
+    };
+    assert!(operation.starts_with("same "), "{operation}");
+    assert_eq!((core.as_str(), reference.as_str()), ("= same", "= different"));
 }
 
 /// Where a generated scenario shows a difference between the engines, says its shortest form.

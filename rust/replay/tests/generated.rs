@@ -25,7 +25,7 @@ fn the_default_run_reaches_every_answer() {
     let scenario = scenario(Kind::All, DEFAULT_SEED, DEFAULT_OPERATIONS);
     let (output, coverage) = run_reference(&scenario);
     println!("{coverage}");
-    assert_eq!(coverage.missing(), [0; 0], "{coverage}");
+    assert_eq!(coverage.missing(), [""; 0], "{coverage}");
     assert_eq!(output.lines().count(), DEFAULT_OPERATIONS);
     for direction in ["out", "in"] {
         let full_caches = shown_caches(&scenario, &output, direction)
@@ -66,11 +66,15 @@ fn every_kind_is_fixed_by_its_seed() {
 #[test]
 fn every_policy_defect_is_refused() {
     let (output, coverage) = run_reference(&scenario(Kind::Defects, 1, 3_000));
-    for number in [20, 21, 23, 24] {
-        assert!(!coverage.missing().contains(&number), "{coverage}");
+    let missing = coverage.missing();
+    for name in ["20", "21", "23", "24", "first", "second"] {
+        assert!(!missing.iter().any(|missing| missing == name), "{coverage}");
     }
     // A random byte may leave a file sound, or cut off a whole number of rows; nothing else may.
-    let accepted = output.lines().filter(|line| !line.starts_with("= 2")).count();
+    let refused = ["= 2", "= first 2", "= second 2"];
+    let accepted =
+        output.lines().filter(|line| !refused.iter().any(|start| line.starts_with(start)));
+    let accepted = accepted.count();
     assert!(accepted < 30, "{accepted} defective files were taken");
 }
 

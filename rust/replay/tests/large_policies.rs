@@ -1,11 +1,12 @@
 //! Normal forms of large policies over the real fields, where no brute force can go.
 
 use reference::{
-    normal_form, normalise, parse_policy, search, Action, Answer, Direction, Entry, Range,
+    normal_form, normalise, parse_policy, same, search, Action, Answer, Direction, Entry, Range,
     Requests, Value, Values, FIELDS, FIELD_TOPS,
 };
 use replay::generate::policies::{random_policy, rewritten};
 use replay::generate::rows::file;
+use replay::generate::same::varied;
 use testkit::Prng;
 
 const LIMIT: usize = 256;
@@ -96,6 +97,32 @@ fn rewritten_policies_have_the_same_file() {
         }
     }
     assert!(printed > 1_000, "only {printed} were compared");
+}
+
+/// Policies are the same exactly where their normal-form files are; without a limit on the rows, a
+/// policy is the same as itself rewritten.
+#[test]
+fn policies_are_compared_as_their_forms_are() {
+    let mut prng = Prng::new(10);
+    let (mut met, mut over) = ([0, 0], 0);
+    for _ in 0..2_000 {
+        let mut rows = random_policy(&mut prng);
+        rows.truncate(60);
+        let other = varied(&mut prng, &rows);
+        let [one, other] = [&rows, &other].map(|rows| file(&mut prng, rows));
+        let compared = same(&one, &other, Direction::Out, Requests::NONE);
+        let forms = [&one, &other].map(|file| normalised(file, Direction::Out));
+        if let [Ok(form), Ok(other_form)] = forms {
+            assert_eq!(compared, Ok(form == other_form), "{rows:?}");
+            met[usize::from(form == other_form)] += 1;
+        } else {
+            let again = rewritten(&mut prng, &rows);
+            let again = file(&mut prng, &again);
+            assert_eq!(same(&one, &again, Direction::Out, Requests::NONE), Ok(true), "{rows:?}");
+            over += 1;
+        }
+    }
+    assert!(met[0] > 200 && met[1] > 200 && over > 20, "{met:?} {over}");
 }
 
 fn random_box(prng: &mut Prng, action: Action) -> Entry<FIELDS> {

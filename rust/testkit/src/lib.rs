@@ -1,13 +1,16 @@
-//! What the scenario generator and the tests share: random numbers that a seed fixes, a builder of
-//! IPv4 packets, captured packets, and running a program. Nothing here reads packets or policies.
+//! What the test programs and the tests share: random numbers that a seed fixes, a builder of IPv4
+//! packets, captured packets, a program's arguments, and running a program. Nothing here reads
+//! packets or policies.
 
 #![forbid(unsafe_code)]
 
+mod arguments;
 mod captures;
 mod ipv4;
 mod prng;
 mod program;
 
+pub use arguments::{Argument, Arguments};
 pub use captures::captured_packets;
 pub use ipv4::{icmp_error, ports, Ipv4, MORE_FRAGMENTS};
 pub use prng::Prng;

@@ -1,10 +1,11 @@
 //! Programs as they are called.
 
+use std::ffi::OsStr;
 use std::io::Write;
 use std::process::{Command, Output, Stdio};
 
 /// What a program writes, and its status, for arguments and an input.
-pub fn run(program: &str, arguments: &[&str], input: &[u8]) -> Output {
+pub fn run(program: &str, arguments: &[impl AsRef<OsStr>], input: &[u8]) -> Output {
     let mut child = Command::new(program)
         .args(arguments)
         .stdin(Stdio::piped())

@@ -128,12 +128,13 @@ impl Generator {
     fn file_lines(&mut self, file: &[u8]) {
         let hex = to_hex(file);
         let direction = self.direction();
-        let line = match self.prng.below(4) {
-            0 | 1 => format!("policy {hex}"),
-            2 => format!("normalise {direction} 5000 {hex}"),
-            _ => format!("search {direction} {hex} 167772160 1 6 22 65536"),
-        };
-        self.line(line);
+        match self.prng.below(6) {
+            0 | 1 => self.line(format!("policy {hex}")),
+            2 => self.line(format!("normalise {direction} 5000 {hex}")),
+            3 => self.same_line(file, b"policy\t1\n"),
+            4 => self.same_line(file, b"no policy"),
+            _ => self.line(format!("search {direction} {hex} 167772160 1 6 22 65536")),
+        }
     }
 }
 

@@ -2,11 +2,13 @@
 //! scenario, so a difference can be reported by naming the three.
 
 mod defects;
+mod headers;
 mod mixed;
 mod packets;
 mod pairs;
 pub mod policies;
 pub mod rows;
+pub mod same;
 
 use crate::operation::to_hex;
 use pairs::PairSpec;
@@ -196,13 +198,14 @@ impl Generator {
         let hex = to_hex(bytes);
         let direction = self.direction();
         let (protocol, spi) = self.pair_name();
-        let line = match self.prng.below(8) {
+        let line = match self.prng.below(9) {
             0 => format!("policy {hex}"),
             1 => format!("normalise {direction} {} {hex}", self.prng.below(200)),
             2 => format!("search {direction} {hex} 1 2 6 65536 0"),
             3 => format!("read {direction} 4 {hex}"),
             4 => format!("trigger 4 {hex}"),
             5 => format!("from {protocol} {spi} {hex}"),
+            6 => format!("same {direction} {hex} {}", to_hex(b"policy\t1\n")),
             _ => format!("{direction} {hex}"),
         };
         self.line(line);

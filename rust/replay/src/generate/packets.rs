@@ -21,8 +21,8 @@ impl Generator {
         for _ in 0..60 {
             self.packet_line();
         }
-        if self.prng.one_in(4) {
-            self.every_truncation();
+        if self.prng.one_in(2) {
+            self.header_lines();
         }
     }
 
@@ -31,7 +31,13 @@ impl Generator {
         let direction = self.direction();
         let bytes = match self.prng.below(8) {
             0 => self.icmp_error_packet(direction),
-            1 => self.gateway_packet(),
+            1 => {
+                let mut packet = self.gateway_packet();
+                if self.prng.one_in(6) {
+                    packet.flags_and_offset = some_fragment(&mut self.prng);
+                }
+                perhaps_broken(&mut self.prng, packet)
+            }
             _ => self.searched_packet(direction),
         };
         let hex = to_hex(&bytes);
@@ -103,7 +109,7 @@ impl Generator {
     }
 
     /// An ICMP error coming in, about a packet near these ranges that went out or came in.
-    fn error_about(&mut self, ranges: &[Ends; FIELDS]) -> Ipv4 {
+    pub fn error_about(&mut self, ranges: &[Ends; FIELDS]) -> Ipv4 {
         let values = self.values_near(ranges);
         let prng = &mut self.prng;
         let returned_direction = *prng.pick(&["out", "out", "in"]);
@@ -124,7 +130,7 @@ impl Generator {
     }
 
     /// AH or ESP, mostly for the gateway and from a live pair.
-    fn gateway_packet(&mut self) -> Vec<u8> {
+    pub fn gateway_packet(&mut self) -> Ipv4 {
         let (protocol, inbound_spi) = self.pair_name();
         let prng = &mut self.prng;
         let protocol = if protocol == 51 || prng.one_in(8) { 51 } else { 50 };
@@ -134,35 +140,15 @@ impl Generator {
         if prng.one_in(4) {
             upper.truncate(prng.between(0, 13) as usize);
         }
-        let destination = if prng.one_in(8) { prng.number() as u32 } else { self.gateway };
-        let mut packet = Ipv4::new(protocol, prng.number() as u32, destination, &upper);
-        if prng.one_in(6) {
-            packet.flags_and_offset = some_fragment(prng);
-        }
-        perhaps_broken(prng, packet)
-    }
-
-    /// One packet cut after each of its bytes.
-    fn every_truncation(&mut self) {
-        let direction = self.direction();
-        let packet = self.error_about(&TOPS.map(|top| (0, top)));
-        let bytes = packet.header_words(6).bytes();
-        for length in 0..=bytes.len().min(60) {
-            let hex = to_hex(&bytes[..length]);
-            self.line(format!("{direction} {hex}"));
-            // Again with the total length cut along, so that it stays readable.
-            let mut cut = bytes[..length].to_vec();
-            if length >= 4 {
-                cut[2..4].copy_from_slice(&(length as u16).to_be_bytes());
-            }
-            let (protocol, inbound_spi) = self.pair_name();
-            self.line(format!("from {protocol} {inbound_spi} {}", to_hex(&cut)));
-        }
+        // Now and then an address that is not the gateway's by one bit.
+        let missed = self.gateway ^ 1 << prng.below(32);
+        let destination = if prng.one_in(8) { missed } else { self.gateway };
+        Ipv4::new(protocol, prng.number() as u32, destination, &upper)
     }
 }
 
 /// A packet in which a reader for this direction sees the values, where a packet can show them.
-fn packet_with(prng: &mut Prng, direction: &str, values: &[u64; FIELDS]) -> Ipv4 {
+pub fn packet_with(prng: &mut Prng, direction: &str, values: &[u64; FIELDS]) -> Ipv4 {
     let &[local, remote, protocol, local_port, remote_port] = values;
     let protocol = protocol as u8;
     let swap = direction == "in";
@@ -196,7 +182,7 @@ fn perhaps_broken(prng: &mut Prng, mut packet: Ipv4) -> Vec<u8> {
         return packet.bytes();
     }
     let true_length = 20 + packet.upper.len() as u64;
-    match prng.below(8) {
+    match prng.below(9) {
         0 => packet.version = prng.below(16) as u8,
         1 => packet.header_words = prng.below(16) as u8,
         2 => packet.total_length = Some(prng.below(true_length + 6) as u16),
@@ -207,6 +193,7 @@ fn perhaps_broken(prng: &mut Prng, mut packet: Ipv4) -> Vec<u8> {
         4 => packet.protocol = prng.byte(),
         5 => packet.header_words = prng.between(6, 15) as u8,
         6 => packet.upper.truncate(prng.below(30) as usize),
+        7 => packet.upper.resize(prng.between(200, 1600) as usize, 0x55),
         _ => {}
     }
     let mut bytes = packet.bytes();

@@ -1,7 +1,8 @@
 //! Pairs: sound ones that fit the policy, and every kind of refusal.
 
-use super::rows::{Ends, RowSpec, FIELDS, TOPS};
+use super::rows::{file, Ends, RowSpec, FIELDS, TOPS};
 use super::Generator;
+use crate::operation::to_hex;
 use testkit::Prng;
 
 #[derive(Clone, Debug)]
@@ -14,7 +15,8 @@ pub struct PairSpec {
 }
 
 const MOST_PAIRS: usize = 64;
-const ESP: u64 = 50;
+const SPI_TOP: u64 = u32::MAX as u64;
+pub const ESP: u64 = 50;
 const AH: u64 = 51;
 
 type PairDefect = fn(&mut PairSpec);
@@ -61,8 +63,10 @@ const RANGE_DEFECTS: &[fn(u64) -> Ends] = &[
 
 impl Generator {
     pub fn pairs_block(&mut self) {
-        if self.prng.one_in(3) {
-            self.fill_the_table();
+        match self.prng.below(6) {
+            0 | 1 => self.fill_the_table(),
+            2 => self.tied_pairs(),
+            _ => {}
         }
         for _ in 0..25 {
             match self.prng.below(10) {
@@ -89,8 +93,40 @@ impl Generator {
         self.add_a_pair();
     }
 
+    /// ESP and AH at one inbound SPI and a pair of another SPI, all for the same packets: added in
+    /// some order, and taken away in another, with packets after each step.
+    fn tied_pairs(&mut self) {
+        self.fresh_gateway();
+        let ranges = TOPS.map(|top| (0, top));
+        let row = RowSpec { scope: "both", action: "protect-7".to_string(), ranges };
+        let file = file(&mut self.prng, std::slice::from_ref(&row));
+        self.policy_line(vec![row], &file);
+        let [spi, any] = [some_spi(&mut self.prng), some_spi(&mut self.prng)];
+        let other = *self.prng.pick(&[any, (spi + 1).min(SPI_TOP), 256]);
+        let mut names = [(ESP, spi), (AH, spi), (*self.prng.pick(&[ESP, AH]), other)];
+        shuffle(&mut self.prng, &mut names);
+        for (protocol, inbound_spi) in names {
+            let outbound_spi = some_spi(&mut self.prng);
+            self.add_pair(PairSpec { protocol, inbound_spi, outbound_spi, number: 7, ranges });
+            self.hit_line("out");
+        }
+        shuffle(&mut self.prng, &mut names);
+        for (protocol, inbound_spi) in names {
+            self.remove_named(protocol, inbound_spi);
+            self.hit_line("out");
+            let packet = to_hex(&self.gateway_packet().bytes());
+            self.line(format!("in {packet}"));
+            self.line(format!("from {protocol} {inbound_spi} {packet}"));
+        }
+        self.line("show pairs".to_string());
+    }
+
     pub fn add_a_pair(&mut self) {
         let pair = self.sound_pair();
+        self.add_pair(pair);
+    }
+
+    fn add_pair(&mut self, pair: PairSpec) {
         self.add_line(&pair);
         let name = |pair: &PairSpec| (pair.protocol, pair.inbound_spi);
         let is_live = self.pairs.iter().any(|live| name(live) == name(&pair));
@@ -104,8 +140,8 @@ impl Generator {
         let prng = &mut self.prng;
         let mut pair = PairSpec {
             protocol: *prng.pick(&[ESP, AH]),
-            inbound_spi: prng.between(256, 400),
-            outbound_spi: prng.between(256, u32::MAX.into()),
+            inbound_spi: some_spi(prng),
+            outbound_spi: prng.between(256, SPI_TOP),
             number: *prng.pick(&[1, 2, 3, 7, 254, 255]),
             ranges: TOPS.map(|top| (0, top)),
         };
@@ -158,6 +194,10 @@ impl Generator {
 
     pub fn remove_a_pair(&mut self) {
         let (protocol, inbound_spi) = self.pair_name();
+        self.remove_named(protocol, inbound_spi);
+    }
+
+    fn remove_named(&mut self, protocol: u64, inbound_spi: u64) {
         self.line(format!("remove {protocol} {inbound_spi}"));
         self.pairs.retain(|pair| (pair.protocol, pair.inbound_spi) != (protocol, inbound_spi));
     }
@@ -169,13 +209,33 @@ impl Generator {
             return (protocol, *self.prng.pick(&[0, 255, 256, 300, u32::MAX.into()]));
         }
         let pair = self.prng.pick(&self.pairs);
-        (pair.protocol, pair.inbound_spi)
+        let (protocol, inbound_spi) = (pair.protocol, pair.inbound_spi);
+        match self.prng.below(12) {
+            // The other protocol, or an SPI that is not the pair's by one bit.
+            0 => (ESP + AH - protocol, inbound_spi),
+            1 => (protocol, inbound_spi ^ 1 << self.prng.below(32)),
+            _ => (protocol, inbound_spi),
+        }
     }
 
-    fn add_line(&mut self, pair: &PairSpec) {
+    pub fn add_line(&mut self, pair: &PairSpec) {
         let PairSpec { protocol, inbound_spi, outbound_spi, number, ranges } = pair;
         let ends = ranges.map(|(low, high)| format!("{low} {high}")).join(" ");
         self.line(format!("add {protocol} {inbound_spi} {outbound_spi} {number} 4 {ends}"));
+    }
+}
+
+/// An SPI that is not reserved: one of a few, or one that needs all four bytes.
+fn some_spi(prng: &mut Prng) -> u64 {
+    match prng.below(3) {
+        0 => prng.between(1 << 24, SPI_TOP),
+        _ => prng.between(256, 400),
+    }
+}
+
+fn shuffle<T>(prng: &mut Prng, items: &mut [T]) {
+    for place in (1..items.len()).rev() {
+        items.swap(place, prng.below(place as u64 + 1) as usize);
     }
 }
 

@@ -15,6 +15,7 @@ impl Generator {
         let rows = random_policy(&mut self.prng);
         let mut variants = vec![rows.clone(), rewritten(&mut self.prng, &rows)];
         variants.push(with_one_change(&mut self.prng, &rows));
+        self.same_lines(&rows);
         let direction = self.direction();
         for rows in variants {
             let file = file(&mut self.prng, &rows);
@@ -33,7 +34,7 @@ impl Generator {
     }
 
     /// Normalises with much room, and with room that is just enough or just too short. Where
-    /// there is a normal form, normalises that again.
+    /// there is a normal form, normalises that again and compares the two.
     fn normalise_lines(&mut self, direction: &str, file: &[u8]) {
         let mut room = vec![0; ROOM_FOR_ALL];
         let way = if direction == "out" { Direction::Out } else { Direction::In };
@@ -45,6 +46,7 @@ impl Generator {
             self.line(format!("normalise {direction} {room_bytes} {hex}"));
             let form = to_hex(&room[..bytes]);
             self.line(format!("normalise {direction} {ROOM_FOR_ALL} {form}"));
+            self.line(format!("same {direction} {hex} {form}"));
         }
     }
 
@@ -190,7 +192,7 @@ fn with_shadows(prng: &mut Prng, mut rows: Vec<RowSpec>) -> Vec<RowSpec> {
     rows
 }
 
-fn narrowed(prng: &mut Prng, row: &RowSpec) -> RowSpec {
+pub fn narrowed(prng: &mut Prng, row: &RowSpec) -> RowSpec {
     let mut copy = RowSpec { action: any_action(prng), ..row.clone() };
     let field = prng.below(FIELDS as u64) as usize;
     let (low, high) = row.ranges[field];

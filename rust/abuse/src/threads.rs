@@ -1,0 +1,66 @@
+//! Calls in several threads at once.
+
+use crate::calls::Abuse;
+use crate::counts::Counts;
+use crate::packets::Packets;
+use specksonne::ffi::{PolicyWords, Table};
+use std::thread;
+use testkit::Prng;
+
+/// Makes this many calls in threads that share nothing.
+pub fn run_apart(threads: usize, calls: u64, seed: u64) -> Counts {
+    in_threads(threads, calls, seed, |calls, seed| {
+        let mut abuse = Abuse::new(seed);
+        abuse.run(calls);
+        abuse.counts()
+    })
+}
+
+/// Makes this many calls with packets, in threads that share a policy and a table and have a cache
+/// each. What is shared changes only between the rounds.
+pub fn run_sharing(threads: usize, calls: u64, seed: u64) -> Counts {
+    const ROUNDS: u64 = 10;
+    let mut owner = Abuse::new(seed);
+    let mut counts = Counts::default();
+    for round in 0..ROUNDS {
+        owner.run(2_000);
+        let (policy, table) = owner.policy_and_table();
+        let calls = calls * (round + 1) / ROUNDS - counts.calls;
+        counts += in_threads(threads, calls, seed + round, |calls, seed| {
+            packets_alone(policy, table, calls, seed)
+        });
+        owner.check();
+    }
+    counts
+}
+
+fn packets_alone(policy: &PolicyWords, table: &Table, calls: u64, seed: u64) -> Counts {
+    let (mut prng, mut packets) = (Prng::new(seed), Packets::new());
+    for _ in 0..calls {
+        packets.call(&mut prng, policy, table);
+    }
+    packets.counts
+}
+
+/// Parts the calls among threads, each with a seed of its own.
+fn in_threads(
+    threads: usize,
+    calls: u64,
+    seed: u64,
+    run: impl Fn(u64, u64) -> Counts + Sync,
+) -> Counts {
+    let mut seeds = Prng::new(seed);
+    let shares =
+        (0..threads as u64).map(|n| calls * (n + 1) / threads as u64 - calls * n / threads as u64);
+    let shares: Vec<(u64, u64)> = shares.map(|calls| (calls, seeds.number())).collect();
+    let mut counts = Counts::default();
+    thread::scope(|scope| {
+        let run = &run;
+        let started: Vec<_> =
+            shares.into_iter().map(|(calls, seed)| scope.spawn(move || run(calls, seed))).collect();
+        for thread in started {
+            counts += thread.join().expect("every call was as it must be");
+        }
+    });
+    counts
+}
