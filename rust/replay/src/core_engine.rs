@@ -130,10 +130,10 @@ fn shown(selectors: Option<Selectors>) -> Reply {
 fn decided(verdict: Verdict) -> Reply {
     let carried = match verdict {
         Verdict::Protect { number, protocol, outbound_spi } => {
-            vec![number, protocol, outbound_spi]
+            vec![number, protocol, outbound_spi.into()]
         }
         Verdict::Wanted { number } => vec![number],
-        Verdict::ToIpsec { protocol, inbound_spi } => vec![protocol, inbound_spi],
+        Verdict::ToIpsec { protocol, inbound_spi } => vec![protocol, inbound_spi.into()],
         _ => Vec::new(),
     };
     let carried = carried.iter().map(u64::to_string).collect();

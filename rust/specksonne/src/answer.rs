@@ -4,35 +4,60 @@ use crate::Direction;
 use std::fmt;
 
 /// What the gateway says of a packet.
+///
+/// ```
+/// use specksonne::{Verdict, ESP};
+///
+/// let verdict = Verdict::Protect { number: 7, protocol: ESP, outbound_spi: 300 };
+/// assert_eq!((verdict.number(), verdict.goes_on()), (2, true));
+/// assert_eq!(verdict.to_string(), "protect-7 by ESP SPI 300");
+/// assert!(!Verdict::Discarded.goes_on());
+/// ```
+#[must_use = "the packet goes where the verdict says"]
 #[derive(Clone, Copy, Debug, PartialEq, Eq)]
 pub enum Verdict {
-    /// 0.
+    /// 0: it passes in clear.
     Pass,
-    /// 1.
+    /// 1: it is delivered.
     Deliver,
-    /// 2: the protect number, and the protocol and outbound SPI of the pair to use.
-    Protect { number: u64, protocol: u64, outbound_spi: u64 },
-    /// 3: no pair serves this protect number.
-    Wanted { number: u64 },
-    /// 4: for the pair of this protocol and inbound SPI.
-    ToIpsec { protocol: u64, inbound_spi: u64 },
-    /// 10.
+    /// 2: it is protected.
+    Protect {
+        /// The N of the protect-N row.
+        number: u64,
+        /// The protocol of the pair to use: 50 for ESP, 51 for AH.
+        protocol: u64,
+        /// The outbound SPI of the pair to use.
+        outbound_spi: u32,
+    },
+    /// 3: an association is wanted; no pair that serves the row holds the packet.
+    Wanted {
+        /// The N of the protect-N row.
+        number: u64,
+    },
+    /// 4: it goes to AH or ESP.
+    ToIpsec {
+        /// The protocol of its pair: 50 for ESP, 51 for AH.
+        protocol: u64,
+        /// The inbound SPI of its pair.
+        inbound_spi: u32,
+    },
+    /// 10: it is not readable.
     NotReadable,
-    /// 11.
+    /// 11: the policy discards it.
     Discarded,
-    /// 12.
+    /// 12: it came in clear, and the policy says protect.
     CameInClear,
-    /// 13.
+    /// 13: there is no such pair.
     NoSuchPair,
-    /// 14.
+    /// 14: it does not fit the pair.
     DoesNotFit,
-    /// 15.
+    /// 15: it is a fragment of AH or ESP.
     IpsecFragment,
-    /// 16.
+    /// 16: it is too short for AH or ESP.
     IpsecTooShort,
-    /// 17.
+    /// 17: the header that an ICMP error returns is not readable.
     TriggerUnreadable,
-    /// 18.
+    /// 18: the header that an ICMP error returns does not fit the pair.
     TriggerDoesNotFit,
 }
 
@@ -42,9 +67,9 @@ impl Verdict {
         match number {
             0 => Verdict::Pass,
             1 => Verdict::Deliver,
-            2 => Verdict::Protect { number: first, protocol: second, outbound_spi: third },
+            2 => Verdict::Protect { number: first, protocol: second, outbound_spi: spi(third) },
             3 => Verdict::Wanted { number: first },
-            4 => Verdict::ToIpsec { protocol: first, inbound_spi: second },
+            4 => Verdict::ToIpsec { protocol: first, inbound_spi: spi(second) },
             10 => Verdict::NotReadable,
             11 => Verdict::Discarded,
             12 => Verdict::CameInClear,
@@ -109,6 +134,11 @@ impl fmt::Display for Verdict {
     }
 }
 
+/// An SPI that an answer carries: the contracts give one of a pair, which was added as 32 bits.
+fn spi(word: u64) -> u32 {
+    word as u32
+}
+
 fn ipsec_name(protocol: u64) -> &'static str {
     if protocol == 50 {
         "ESP"
@@ -118,29 +148,45 @@ fn ipsec_name(protocol: u64) -> &'static str {
 }
 
 /// Why a policy, a pair or a print was refused.
+///
+/// ```
+/// use specksonne::{Gateway, Refusal};
+///
+/// fn gateway(file: &[u8]) -> Result<Gateway, Box<dyn std::error::Error>> {
+///     let mut gateway = Gateway::new("192.0.2.1".parse()?);
+///     gateway.set_policy(file)?;
+///     Ok(gateway)
+/// }
+///
+/// assert!(gateway(b"policy\t1\n").is_ok());
+/// let error = gateway(b"policy\t1\nout\n").unwrap_err();
+/// assert_eq!(error.to_string(), "bad row 1");
+/// assert_eq!(error.downcast_ref(), Some(&Refusal::BadRow(1)));
+/// ```
 #[derive(Clone, Copy, Debug, PartialEq, Eq)]
 pub enum Refusal {
-    /// 20: the row's number, the first being 1.
+    /// 20: a row is bad; its number, the first being 1.
     BadRow(u64),
-    /// 21.
+    /// 21: more than 256 rows.
     TooManyRows,
-    /// 22.
+    /// 22: the normal form for that direction has more than 256 rows.
     NormalFormTooLarge(Direction),
-    /// 23.
+    /// 23: the first nine bytes are not the header line.
     NotHeader,
-    /// 24.
+    /// 24: the last byte is not LF.
     NotEnded,
-    /// 25.
+    /// 25: an SPI is below 256.
     ReservedSpi,
-    /// 26.
+    /// 26: the pair is live already.
     AlreadyLive,
-    /// 27.
+    /// 27: 64 pairs are live.
     TableFull,
-    /// 28.
+    /// 28: a protocol other than 50 and 51, a number that is not 1 to 255, a range value beyond its
+    /// field, or low above high.
     BadPair,
-    /// 29.
+    /// 29: no such pair is live.
     NothingToRemove,
-    /// 31.
+    /// 31: the lent room is shorter than the printed file.
     NoRoom,
 }
 

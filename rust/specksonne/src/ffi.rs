@@ -15,11 +15,17 @@ pub const CACHE_WORDS: usize = 706;
 /// The words of a row.
 pub const ROW_WORDS: usize = 22;
 
+/// A gateway's policy.
 pub type PolicyWords = [u64; POLICY_WORDS];
+/// The table of SA pairs.
 pub type Table = [u64; TABLE_WORDS];
+/// The cache of one direction.
 pub type CacheWords = [u64; CACHE_WORDS];
+/// Five values, two words for each, the upper first.
 pub type SelectorWords = [u64; 10];
+/// Five ranges, four words for each: the low end and the high end, the upper word first.
 pub type RangeWords = [u64; 20];
+/// A row.
 pub type RowWords = [u64; ROW_WORDS];
 
 // The library is for 64-bit machines, and counts are passed as they are.

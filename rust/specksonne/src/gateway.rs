@@ -3,6 +3,7 @@
 use crate::ffi::{self, CacheWords, PolicyWords, Table};
 use crate::ffi::{CACHE_WORDS, POLICY_WORDS, ROW_WORDS, TABLE_WORDS};
 use crate::{pair, policy, Direction, Pair, Refusal, Verdict};
+use std::fmt;
 use std::net::Ipv4Addr;
 
 /// The policy gate of an IPsec gateway with one address.
@@ -31,7 +32,7 @@ use std::net::Ipv4Addr;
 /// assert_eq!(gateway.from_sa(ESP, 257, &packet), Verdict::NoSuchPair);
 /// assert_eq!(gateway.outbound(&packet[..19]), Verdict::NotReadable);
 /// ```
-#[derive(Clone, Debug)]
+#[derive(Clone)]
 pub struct Gateway {
     policy: Box<PolicyWords>,
     table: Box<Table>,
@@ -54,7 +55,7 @@ impl Gateway {
     }
 
     /// Takes a policy file and empties the caches, or refuses it and changes nothing. The pairs
-    /// stay.
+    /// stay. It needs up to 1 MiB of stack; every other call less than 64 KiB.
     pub fn set_policy(&mut self, file: &[u8]) -> Result<(), Refusal> {
         let mut carries = 0;
         let Gateway { policy, outbound, inbound, .. } = self;
@@ -114,6 +115,25 @@ impl Gateway {
         Verdict::from_words(number, carries)
     }
 
+    /// How many rows the normal form of the policy has for one direction.
+    ///
+    /// ```
+    /// use specksonne::{Direction, Gateway};
+    ///
+    /// let mut gateway = Gateway::new("192.0.2.1".parse().unwrap());
+    /// gateway.set_policy(b"policy\t1\nout\tbypass\tany\tany\t17\tany\tany\n").unwrap();
+    /// assert_eq!(gateway.normal_form_rows(Direction::Out), 1);
+    /// assert_eq!(gateway.normal_form_rows(Direction::In), 0);
+    /// ```
+    pub fn normal_form_rows(&self, direction: Direction) -> usize {
+        // Word 1 of the policy is the count for out, word 2 that for in.
+        let word = match direction {
+            Direction::Out => 1,
+            Direction::In => 2,
+        };
+        self.policy[word] as usize
+    }
+
     /// The slot that is written next in the cache of one direction.
     pub fn next_slot(&self, direction: Direction) -> usize {
         // A gateway that was made fresh has both words in range.
@@ -122,11 +142,14 @@ impl Gateway {
 
     /// The rows in the slots in use, as the printer writes them, without LF.
     pub fn cached_rows(&self, direction: Direction) -> Vec<String> {
-        let cache = self.cache(direction);
-        let used = cache[CACHE_WORDS - 2] as usize * ROW_WORDS;
-        let file = policy::print(&cache[..used], direction);
+        let used = self.slots_in_use(direction) * ROW_WORDS;
+        let file = policy::print(&self.cache(direction)[..used], direction);
         let text = String::from_utf8(file).expect("the printer writes ASCII");
         text.lines().skip(1).map(str::to_string).collect()
+    }
+
+    fn slots_in_use(&self, direction: Direction) -> usize {
+        self.cache(direction)[CACHE_WORDS - 2] as usize
     }
 
     fn cache(&self, direction: Direction) -> &CacheWords {
@@ -134,5 +157,18 @@ impl Gateway {
             Direction::Out => &self.outbound,
             Direction::In => &self.inbound,
         }
+    }
+}
+
+/// The address and how much the gateway holds, not its words.
+impl fmt::Debug for Gateway {
+    fn fmt(&self, f: &mut fmt::Formatter) -> fmt::Result {
+        let both = |count: &dyn Fn(Direction) -> usize| [Direction::Out, Direction::In].map(count);
+        f.debug_struct("Gateway")
+            .field("address", &Ipv4Addr::from(self.policy[0] as u32))
+            .field("normal_form_rows", &both(&|direction| self.normal_form_rows(direction)))
+            .field("pairs", &self.pairs().count())
+            .field("slots_in_use", &both(&|direction| self.slots_in_use(direction)))
+            .finish()
     }
 }

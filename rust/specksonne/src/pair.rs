@@ -1,9 +1,12 @@
 //! SA pairs.
 
 use crate::ffi::{RangeWords, Table};
-use crate::{Policy, Refusal};
+use crate::row_fault::refused_ranges;
+use crate::{Policy, Refusal, RowFault};
 
+/// The protocol number of ESP.
 pub const ESP: u64 = 50;
+/// The protocol number of AH.
 pub const AH: u64 = 51;
 
 /// The words of a place in the table.
@@ -14,10 +17,13 @@ const PLACE_WORDS: usize = 24;
 pub struct Pair {
     /// 50 for ESP, 51 for AH.
     pub protocol: u64,
+    /// With the protocol it names the pair. Below 256 it is refused.
     pub inbound_spi: u32,
+    /// What [`Verdict::Protect`](crate::Verdict::Protect) carries. Below 256 it is refused.
     pub outbound_spi: u32,
     /// The N of the protect-N rows that it serves.
     pub number: u64,
+    /// The packets that it is for.
     pub ranges: Ranges,
 }
 
@@ -36,23 +42,30 @@ impl Ranges {
         (0, 65_536),
     ]);
 
-    /// Reads the five ranges as a policy file writes them, parted by tabs.
+    /// Reads the five ranges as a policy file writes them, parted by tabs, or says why they are
+    /// none.
     ///
     /// ```
     /// use specksonne::Ranges;
     ///
-    /// assert_eq!(Ranges::parse("any\tany\tany\tany\tany"), Some(Ranges::ANY));
+    /// assert_eq!(Ranges::parse("any\tany\tany\tany\tany"), Ok(Ranges::ANY));
     /// let ranges = Ranges::parse("10.0.0.0/255.0.0.0\tany\t6\t22-opaque\tany").unwrap();
     /// assert_eq!(ranges.0[3], (22, 65_536));
-    /// assert_eq!(Ranges::parse("any\tany\tany\tany"), None);
+    /// let fault = Ranges::parse("any\tany\ttcp\tany\tany").unwrap_err();
+    /// assert_eq!(fault.to_string(), "protocol 'tcp': 'tcp' is no decimal number");
     /// ```
-    pub fn parse(text: &str) -> Option<Ranges> {
+    pub fn parse(text: &str) -> Result<Ranges, RowFault> {
+        let words = Ranges::parsed(text).ok_or_else(|| refused_ranges(text.as_bytes()))?;
+        Ok(Ranges::from_words(&words))
+    }
+
+    /// The ranges as the library reads them in a row.
+    fn parsed(text: &str) -> Option<RangeWords> {
         if text.contains('\n') {
             return None;
         }
         let file = format!("policy\t1\nboth\tbypass\t{text}\n");
-        let words = Policy::parse(file.as_bytes()).ok()?.ranges(0)?;
-        Some(Ranges::from_words(&words))
+        Policy::parse(file.as_bytes()).ok()?.ranges(0)
     }
 
     pub(crate) fn words(&self) -> RangeWords {

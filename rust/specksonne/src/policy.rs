@@ -2,6 +2,7 @@
 
 use crate::ffi::{self, ROW_WORDS};
 use crate::{Direction, Refusal, Selectors};
+use std::error::Error;
 use std::fmt;
 
 /// The most rows of a policy and of a normal form.
@@ -12,8 +13,11 @@ pub const MOST_NORMAL_FORM_BYTES: usize = 9 + MOST_ROWS * 120;
 /// What is done with a packet that a row holds.
 #[derive(Clone, Copy, Debug, PartialEq, Eq)]
 pub enum Action {
+    /// It is dropped.
     Discard,
+    /// It passes in clear.
     Bypass,
+    /// It is protected by a pair of this number.
     Protect(u64),
 }
 
@@ -124,7 +128,7 @@ pub(crate) fn print(rows: &[u64], direction: Direction) -> Vec<u8> {
 }
 
 /// Normalises a policy file for one direction into `room`, and says how many bytes it wrote. A
-/// refusal leaves `room` as it was.
+/// refusal leaves `room` as it was. It needs up to 1 MiB of stack.
 pub fn normalise_into(
     file: &[u8],
     direction: Direction,
@@ -136,7 +140,7 @@ pub fn normalise_into(
 }
 
 /// The normal-form file of a policy file for one direction. Two policies have the same one exactly
-/// when they treat every packet of that direction alike.
+/// when they treat every packet of that direction alike. It needs up to 1 MiB of stack.
 ///
 /// ```
 /// use specksonne::{normalise, Direction};
@@ -160,12 +164,43 @@ pub fn normalise(file: &[u8], direction: Direction) -> Result<Vec<u8>, Refusal> 
 /// A policy file that was refused when two were compared.
 #[derive(Clone, Copy, Debug, PartialEq, Eq)]
 pub enum Refused {
+    /// The first file was refused.
     First(Refusal),
+    /// The first file was taken, and the second refused.
     Second(Refusal),
 }
 
+impl Refused {
+    /// Why the file was refused.
+    pub fn refusal(self) -> Refusal {
+        match self {
+            Refused::First(refusal) | Refused::Second(refusal) => refusal,
+        }
+    }
+}
+
+/// Which file it was, and the refusal's number; its words are those of the source.
+impl fmt::Display for Refused {
+    fn fmt(&self, f: &mut fmt::Formatter) -> fmt::Result {
+        let file = match self {
+            Refused::First(_) => "first",
+            Refused::Second(_) => "second",
+        };
+        write!(f, "the {file} policy is refused with {}", self.refusal().number())
+    }
+}
+
+impl Error for Refused {
+    fn source(&self) -> Option<&(dyn Error + 'static)> {
+        match self {
+            Refused::First(refusal) | Refused::Second(refusal) => Some(refusal),
+        }
+    }
+}
+
 /// Whether two policy files treat every packet of one direction alike, however many rows their
-/// normal forms have.
+/// normal forms have. It needs up to 1 MiB of stack, and for large policies that are alike it can
+/// take seconds.
 ///
 /// ```
 /// use specksonne::{same_policy, Direction, Refusal, Refused};

@@ -8,7 +8,9 @@ use std::ops::Range;
 /// Which way a packet goes (document 01's way).
 #[derive(Clone, Copy, Debug, PartialEq, Eq, Hash)]
 pub enum Direction {
+    /// It leaves: its source is local.
     Out,
+    /// It comes in: its destination is local.
     In,
 }
 
@@ -40,10 +42,15 @@ impl fmt::Display for Direction {
 /// One value for each field; an absent port is `None`, which only `any` and `opaque` ranges hold.
 #[derive(Clone, Copy, Debug, PartialEq, Eq, Hash)]
 pub struct Selectors {
+    /// The local address.
     pub local: Ipv4Addr,
+    /// The remote address.
     pub remote: Ipv4Addr,
+    /// The protocol's number.
     pub protocol: u8,
+    /// The local port; for ICMP type * 256 + code.
     pub local_port: Option<u16>,
+    /// The remote port.
     pub remote_port: Option<u16>,
 }
 
@@ -98,6 +105,16 @@ pub fn read(packet: &[u8], direction: Direction) -> Option<Selectors> {
 
 /// Where the triggering header of an ICMP error message stands in the packet, whatever the packet
 /// is: from 8 bytes into its upper part on. None where the packet is not readable.
+///
+/// ```
+/// use specksonne::triggering_header;
+///
+/// let mut packet = [0; 48];
+/// packet[0] = 0x45; // version 4, a header of 20 bytes
+/// packet[3] = 48; // total length
+/// assert_eq!(triggering_header(&packet), Some(28..48));
+/// assert_eq!(triggering_header(&packet[..40]), None);
+/// ```
 pub fn triggering_header(packet: &[u8]) -> Option<Range<usize>> {
     let mut part = [0; 2];
     let readable = ffi::trigger(packet, &mut part);

@@ -4,6 +4,7 @@ use specksonne::{
     normalise, normalise_into, read, same_policy, triggering_header, Direction, Gateway, Pair,
     Policy, Ranges, Refusal, Selectors, Verdict, AH, ESP, MOST_NORMAL_FORM_BYTES,
 };
+use std::error::Error;
 use std::net::Ipv4Addr;
 use testkit::{address, captured_packets, icmp_error, ports, Ipv4};
 
@@ -36,6 +37,40 @@ fn document_01s_worked_example() {
     let form = normalise(&policy, Direction::Out).unwrap();
     assert_eq!(form.iter().filter(|&&byte| byte == b'\n').count(), 7);
     assert_eq!(normalise(&form, Direction::Out).unwrap(), form);
+
+    let mut gateway = Gateway::new(GATEWAY);
+    gateway.set_policy(&policy).unwrap();
+    let rows = [Direction::Out, Direction::In].map(|direction| gateway.normal_form_rows(direction));
+    assert_eq!(rows, [6, 1]);
+}
+
+#[test]
+fn a_gateway_is_shown_in_one_line() {
+    let mut gateway = Gateway::new(GATEWAY);
+    gateway.set_policy(&file(&["both\tbypass\tany\tany\t6-17\tany\tany"])).unwrap();
+    gateway.add(&pair(ESP, 256, 1)).unwrap();
+    assert_eq!(gateway.inbound(&udp(1, 2)), Verdict::Pass);
+    assert_eq!(
+        format!("{gateway:?}"),
+        "Gateway { address: 192.0.2.1, normal_form_rows: [1, 1], pairs: 1, slots_in_use: [0, 1] }"
+    );
+}
+
+/// What `?` makes of a refusal, with its sources.
+fn chain(error: Box<dyn Error>) -> Vec<String> {
+    let first: &dyn Error = error.as_ref();
+    std::iter::successors(Some(first), |&error| error.source()).map(|e| e.to_string()).collect()
+}
+
+#[test]
+fn refusals_are_errors() {
+    let bad = file(&["out"]);
+    let refused = same_policy(&file(&[]), &bad, Direction::Out).unwrap_err();
+    assert_eq!(chain(refused.into()), ["the second policy is refused with 20", "bad row 1"]);
+    let refused = same_policy(b"", &bad, Direction::Out).unwrap_err();
+    assert_eq!(chain(refused.into())[0], "the first policy is refused with 23");
+    assert_eq!(chain(Policy::parse(&bad).unwrap_err().into()), ["bad row 1"]);
+    assert_eq!(chain(Ranges::parse("any").unwrap_err().into()).len(), 1);
 }
 
 #[test]
@@ -167,8 +202,8 @@ fn every_call_fits_in_a_mebibyte_of_stack() {
             let form = normalise(&policy, Direction::Out);
             assert!(accepted.is_ok() || form.is_err());
             assert_eq!(same_policy(&policy, &policy, Direction::In), Ok(true));
-            gateway.outbound(&udp(1, 2));
-            gateway.inbound(&udp(1, 2));
+            let _ = gateway.outbound(&udp(1, 2));
+            let _ = gateway.inbound(&udp(1, 2));
         }
     };
     let thread = std::thread::Builder::new().stack_size(1 << 20).spawn(calls);
