@@ -58,11 +58,9 @@ fn without_options(command: &str, operands: &[OsString]) -> Result<Task, Failure
         ("normalise", [way, policy]) => {
             Task::Normalise { direction: direction(way)?, policy: policy.clone() }
         }
-        ("same", [way, first, second]) => Task::Same {
-            direction: direction(way)?,
-            first: first.clone(),
-            second: second.clone(),
-        },
+        ("same", [way, first, second]) => {
+            Task::Same { direction: direction(way)?, first: first.clone(), second: second.clone() }
+        }
         ("explain", [way, policy, local, remote, protocol, local_port, remote_port]) => {
             let values = [local, remote, protocol, local_port, remote_port];
             Task::Explain {
@@ -72,9 +70,7 @@ fn without_options(command: &str, operands: &[OsString]) -> Result<Task, Failure
             }
         }
         ("help", []) => Task::Print(help::COMMANDS),
-        ("help", [topic]) => {
-            Task::Print(help::topic(&topic.to_string_lossy()).map_err(usage)?)
-        }
+        ("help", [topic]) => Task::Print(help::topic(&topic.to_string_lossy()).map_err(usage)?),
         ("check", _) => return Err(takes(command, "POLICY")),
         ("normalise", _) => return Err(takes(command, "out|in POLICY")),
         ("same", _) => return Err(takes(command, "out|in A B")),
@@ -95,9 +91,8 @@ fn no_command(word: &OsStr) -> Failure {
 }
 
 fn asked(words: &mut Words, operands: &[OsString]) -> Result<Asked, Failure> {
-    let mut needed = |name: &str| {
-        words.take(name).ok_or_else(|| usage(format!("decide needs {name}")))
-    };
+    let mut needed =
+        |name: &str| words.take(name).ok_or_else(|| usage(format!("decide needs {name}")));
     let (address, policy) = (needed("--address")?, needed("--policy")?);
     let pairs = words.take("--pairs");
     let (first, capture) = match operands {

@@ -20,8 +20,8 @@ struct Summary {
 pub fn decide(asked: &Asked, output: &mut impl Write) -> Result<(), Failure> {
     let mut gateway = gateway(asked)?;
     let input = input::open(&asked.capture)?;
-    let mut capture = Capture::open(input.bytes)
-        .map_err(|error| input::unreadable(&asked.capture, &error))?;
+    let mut capture =
+        Capture::open(input.bytes).map_err(|error| input::unreadable(&asked.capture, &error))?;
     let (mut summary, mut progress) = (Summary::default(), Packets::new());
     let read = loop {
         match capture.next_record() {

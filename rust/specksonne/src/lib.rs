@@ -33,5 +33,5 @@ pub use policy::{
     normalise, normalise_into, same_policy, Action, Policy, Refused, MOST_NORMAL_FORM_BYTES,
     MOST_ROWS,
 };
-pub use row_fault::{ranges_fault, row_fault, Field, Reason, RowFault};
+pub use row_fault::{number as decimal, ranges_fault, row_fault, Field, Reason, RowFault};
 pub use selectors::{read, triggering_header, Direction, Selectors};

@@ -46,9 +46,15 @@ pub enum NoPacket {
     Ipv6,
     UnknownLink(u32),
     /// So many bytes of the packet were recorded, out of its total length.
-    CutPacket { recorded: usize, total: usize },
+    CutPacket {
+        recorded: usize,
+        total: usize,
+    },
     /// So many bytes of the frame were recorded: too few to show the packet's total length.
-    CutFrame { recorded: usize, original: u32 },
+    CutFrame {
+        recorded: usize,
+        original: u32,
+    },
 }
 
 impl<R: Read> Capture<R> {
