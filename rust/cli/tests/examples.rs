@@ -22,7 +22,7 @@ fn the_oven_is_decided_as_written() {
 fn a_later_fragment_meets_no_port_rule() {
     let output = Command::new(env!("CARGO_BIN_EXE_specksonne"))
         .current_dir(EXAMPLES)
-        .args(["explain", "oven.policy", "out", "10.1.0.5", "192.0.2.20", "17", "opaque", "opaque"])
+        .args(["explain", "out", "oven.policy", "10.1.0.5", "192.0.2.20", "17", "opaque", "opaque"])
         .output()
         .expect("the command runs");
     assert!(String::from_utf8_lossy(&output.stdout).starts_with("action: discard\n"));

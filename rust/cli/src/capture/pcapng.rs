@@ -115,7 +115,7 @@ impl<'a, R: Read> Block<'a, R> {
         let length = order.four([a, b, c, d]);
         // The type, and the length before and after the body.
         match length.checked_sub(12) {
-            Some(left) if length % 4 == 0 => Ok(Block { input, order, length, left }),
+            Some(left) if length.is_multiple_of(4) => Ok(Block { input, order, length, left }),
             _ => Err(damaged(format!("the capture is damaged: a block of {length} bytes"))),
         }
     }
