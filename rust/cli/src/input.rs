@@ -41,6 +41,12 @@ pub fn row(file: &[u8], number: usize) -> &[u8] {
     file.split(|&byte| byte == b'\n').nth(number).unwrap_or_default()
 }
 
+/// Bytes to show in a message: at most so many of them, those that are no printable ASCII escaped.
+pub fn shown(bytes: &[u8], most: usize) -> String {
+    let more = if bytes.len() > most { "..." } else { "" };
+    format!("{}{more}", bytes[..bytes.len().min(most)].escape_ascii())
+}
+
 pub fn unreadable(name: &OsStr, error: &io::Error) -> Failure {
     let why = match error.kind() {
         io::ErrorKind::NotFound => "no such file".to_string(),

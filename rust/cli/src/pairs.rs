@@ -8,6 +8,9 @@ use std::fmt::Display;
 /// The fields of a line; the last five are ranges as in a policy file.
 const FIELDS: usize = 9;
 
+/// As much of a field as is shown.
+const LONGEST_FIELD: usize = 60;
+
 /// Adds the pairs of a file.
 pub fn add_all(name: &OsStr, gateway: &mut Gateway) -> Result<(), Failure> {
     let file = input::read(name)?;
@@ -63,5 +66,5 @@ fn count_fault(line: &str, found: usize) -> String {
 }
 
 fn fault(field: &str, text: &str, reason: impl Display) -> String {
-    format!("{field} '{}': {reason}", text.escape_debug())
+    format!("{field} '{}': {reason}", input::shown(text.as_bytes(), LONGEST_FIELD))
 }

@@ -1,6 +1,7 @@
 //! What is said of a refused file besides the answer's number and words.
 
-use crate::{input, Failure};
+use crate::input::{row, shown};
+use crate::Failure;
 use specksonne::{row_fault, Refusal};
 use std::ffi::OsStr;
 
@@ -25,7 +26,7 @@ pub fn policy(name: &OsStr, file: &[u8], refusal: Refusal) -> Failure {
     let more = match refusal {
         Refusal::NotHeader => not_header(file),
         Refusal::NotEnded => not_ended(file),
-        Refusal::BadRow(number) => bad_row(input::row(file, number as usize)),
+        Refusal::BadRow(number) => bad_row(row(file, number as usize)),
         _ => String::new(),
     };
     Failure::Refused(format!("{}: {}: {refusal}{more}", name.display(), refusal.number()))
@@ -49,8 +50,6 @@ fn not_ended(file: &[u8]) -> String {
 }
 
 fn bad_row(row: &[u8]) -> String {
-    let shown = &row[..row.len().min(LONGEST_ROW)];
-    let more = if shown.len() < row.len() { "..." } else { "" };
     let fault = row_fault(row).map_or(String::new(), |fault| format!(": {fault}"));
-    format!(": \"{}{more}\"{fault}", shown.escape_ascii())
+    format!(": \"{}\"{fault}", shown(row, LONGEST_ROW))
 }

@@ -41,21 +41,19 @@ impl Words {
     ) -> Result<(), Failure> {
         let (name, joined) = name_and_value(word);
         let known = |options: &[&'static str]| options.iter().copied().find(|&own| name == own);
-        let (name, value) = if let Some(name) = known(&WITH_VALUE) {
-            let value = joined.or_else(|| rest.next()).filter(|value| !value.is_empty());
-            (name, value.ok_or_else(|| usage(format!("{name} needs a value")))?)
-        } else if let Some(name) = known(&ALONE) {
-            if joined.is_some() {
-                return Err(usage(format!("{name} takes no value")));
+        let option = match (known(&WITH_VALUE), known(&ALONE), joined) {
+            (Some(name), _, _) if self.has(name) => {
+                return Err(usage(format!("{name} is given twice")));
             }
-            (name, OsString::new())
-        } else {
-            return Err(usage(format!("unknown option {name:?}")));
+            (Some(name), _, joined) => {
+                let value = joined.or_else(|| rest.next()).filter(|value| !value.is_empty());
+                (name, value.ok_or_else(|| usage(format!("{name} needs a value")))?)
+            }
+            (None, Some(name), None) => (name, OsString::new()),
+            (None, Some(name), Some(_)) => return Err(usage(format!("{name} takes no value"))),
+            (None, None, _) => return Err(usage(format!("unknown option {name:?}"))),
         };
-        if self.has(name) {
-            return Err(usage(format!("{name} is given twice")));
-        }
-        self.options.push((name, value));
+        self.options.push(option);
         Ok(())
     }
 

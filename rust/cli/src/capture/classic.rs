@@ -26,8 +26,8 @@ impl<R: Read> Reader<R> {
         let mut header = [0; 24];
         fill(&mut input, &mut header, "header")?;
         let [.., a, b, c, d] = header;
-        // The upper bits of this word say something else.
-        let link = Link::from_number(order.four([a, b, c, d]) & 0x0fff_ffff);
+        // The upper six bits say whether frames end in a checksum, and how long that is.
+        let link = Link::from_number(order.four([a, b, c, d]) & 0x03ff_ffff);
         if let Link::Unknown(number) = link {
             return Err(damaged(format!("link type {number} is not read")));
         }

@@ -114,6 +114,15 @@ fn ethernet_and_linux_cooked_are_read() {
     }
 }
 
+/// The upper bits of the link type say that frames end in a checksum of four bytes.
+#[test]
+fn frames_may_end_in_a_checksum() {
+    let frame = Frame::whole(&[ethernet(&[8, 0], &ike()), vec![7; 4]].concat());
+    let mut capture = classic(true, ETHERNET, &[frame]);
+    capture[20] = 0x24;
+    decided_as(&capture, PASS);
+}
+
 #[test]
 fn loopback_is_read() {
     for link in [0, 108] {

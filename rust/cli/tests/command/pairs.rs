@@ -52,6 +52,9 @@ fn a_bad_line_names_the_field_and_the_reason() {
     bad(&LINE.replace("7", "07"), "number '07': 07 has a leading zero");
     bad(&LINE.replace("7", "p-7"), "number 'p-7': 'p-7' is no decimal number");
     bad(&LINE.replace("any\n", "0-65537\n"), "remote port '0-65537': 65537 is above 65535");
+    let long = "5".repeat(99);
+    let shown = format!("number '{0}...': {0}... is above 4294967295", "5".repeat(60));
+    bad(&LINE.replace("7", &long), &shown);
     let mask = "local address '10.0.0.1/8': the mask is four decimals, not a length: 255.0.0.0";
     bad(&LINE.replace("7\tany", "7\t10.0.0.1/8"), mask);
 }
