@@ -1,7 +1,8 @@
 /*
- * A gateway with one policy and one SA pair decides two packets.
+ * A gateway with one policy and one SA pair decides two packets, and the rows of the policy file
+ * are searched for the second by themselves.
  *
- *     cc -std=c99 -Wall -Wextra -o example c/example.c target/staticlib/libspecksonne.a
+ *     cc -std=c99 -Wall -Wextra -Wpedantic -o example c/example.c target/staticlib/libspecksonne.a
  */
 #include "specksonne.h"
 
@@ -28,6 +29,18 @@ static void make_packet(uint8_t packet[24], uint8_t protocol, uint16_t from, uin
     packet[23] = to & 255;
 }
 
+/* The action of the first row of the file that holds a packet going out. */
+static uint64_t search_file(const uint8_t *packet, size_t length, uint64_t *number) {
+    static struct specksonne_row rows[SPECKSONNE_MOST_ROWS];
+    uint64_t answer, count, selectors[10];
+
+    answer = specksonne_parse((const uint8_t *)file, sizeof file - 1, (uint64_t *)rows,
+                              SPECKSONNE_MOST_ROWS * SPECKSONNE_ROW_WORDS, &count);
+    if (answer != SPECKSONNE_DONE || !specksonne_read(SPECKSONNE_OUT, packet, length, selectors))
+        return 0;
+    return specksonne_search_records(rows, (size_t)count, SPECKSONNE_OUT, selectors, number);
+}
+
 int main(void) {
     static uint64_t policy[SPECKSONNE_POLICY_WORDS], table[SPECKSONNE_TABLE_WORDS];
     static uint64_t outbound[SPECKSONNE_CACHE_WORDS], inbound[SPECKSONNE_CACHE_WORDS];
@@ -51,5 +64,7 @@ int main(void) {
     make_packet(packet, 17, 500, 500);
     number = specksonne_outbound(policy, table, outbound, packet, sizeof packet, carries);
     printf("ike %" PRIu64 "\n", number);
+    number = search_file(packet, sizeof packet, carries);
+    printf("ike by the file's rows %" PRIu64 "\n", number);
     return 0;
 }

@@ -7,12 +7,26 @@
  *
  * What the caller owes:
  * - A pointer beside a count is to that many elements, a pointer to an array to as many as the
- *   array has; it is not null (also where the count is 0) and aligned for its type.
+ *   array has, and aligned for its type. A pointer beside the count 0 may be null; no other may.
  * - What a function may write overlaps nothing else that the call is lent, and nobody else uses
  *   it during the call. Constant arguments may overlap.
  * - specksonne_policy, specksonne_normalise and specksonne_same need up to 1 MiB of stack, every
  *   other function less than 64 KiB.
- * The library has no state of its own: calls on different memory may run at the same time.
+ *
+ * Threads: the library has no state of its own, and constant arguments are only read. So threads
+ * may share one policy and one table, each with caches of its own, as long as nobody writes to the
+ * policy or the table meanwhile (specksonne_policy, specksonne_add, specksonne_remove).
+ *
+ * Caches: a cache holds rows of the policy that answered before. When a policy is accepted every
+ * cache that was used with it must be emptied before it is used again, or it may pass in clear what
+ * the new policy forbids. specksonne_policy empties the two that it is given; a further cache, of
+ * another thread, is emptied by its owner: zeros are an empty cache.
+ *
+ * Time, as measured (docs/PERFORMANCE.md): a packet takes up to 2 microseconds. Laying a policy
+ * out (specksonne_policy for both directions, specksonne_normalise for one) takes milliseconds,
+ * and 0.1 s for the hardest of 256 rows that were tried. specksonne_same takes seconds for some
+ * policies of 120 rows that are alike, and for the hardest more than 40 s. What is proved is that
+ * they end, not when: call them where a wait does no harm.
  *
  * Numbers returned are those of document 01's table, and `carries` is what the answer carries,
  * zeros where nothing is listed. Any words may be lent as a policy, a table or a cache: then a
@@ -30,6 +44,24 @@
 extern "C" {
 #endif
 
+/*
+ * The number of the binary interface. A program refers to the function that carries it in its name,
+ * so that one which was compiled with another header does not link. It is raised whenever a program
+ * that was compiled before could no longer be right: a size below, what a word means, a parameter,
+ * a result or what an answer carries has changed. A function that is new raises the version alone.
+ */
+#define SPECKSONNE_ABI 1
+uint64_t specksonne_abi_1(void);
+#if defined(__has_attribute)
+#if __has_attribute(retain)
+#define SPECKSONNE_KEPT __attribute__((used, retain))
+#endif
+#endif
+#ifndef SPECKSONNE_KEPT
+#define SPECKSONNE_KEPT __attribute__((used))
+#endif
+static uint64_t (*const specksonne_abi_wanted)(void) SPECKSONNE_KEPT = specksonne_abi_1;
+
 /* Directions: 1 is out, and any other number in. */
 #define SPECKSONNE_OUT 1
 #define SPECKSONNE_IN 2
@@ -41,6 +73,11 @@ extern "C" {
  * words, the upper first (0 for IPv4). An absent port is 65536.
  */
 #define SPECKSONNE_ROW_WORDS 22
+struct specksonne_row {
+    uint64_t words[SPECKSONNE_ROW_WORDS];
+};
+
+/* The most rows of a policy, and of a normal form for one direction. */
 #define SPECKSONNE_MOST_ROWS 256
 
 /*
@@ -57,11 +94,12 @@ extern "C" {
  */
 #define SPECKSONNE_POLICY_WORDS 11267
 
-/* A cache: 32 slots for rows, the count of slots in use (the first ones), the slot that is next. */
+/* A cache: 32 slots for rows, the count of slots in use (the first ones), the slot that is next.
+   Zeros are an empty one. */
 #define SPECKSONNE_CACHE_WORDS 706
 
-/* The longest normal-form file. */
-#define SPECKSONNE_MOST_FORM_BYTES (9 + 256 * 120)
+/* Bytes that are enough for every normal-form file. */
+#define SPECKSONNE_MOST_FORM_BYTES (9 + SPECKSONNE_MOST_ROWS * 120)
 
 /* Document 01's answers. */
 enum {
@@ -95,6 +133,17 @@ enum {
     SPECKSONNE_NO_ROOM = 31              /* lent room too short */
 };
 
+/* The version: major * 1000000 + minor * 1000 + patch. */
+uint64_t specksonne_version(void);
+
+/* The sizes above, as the library was built with them. */
+size_t specksonne_policy_words(void);
+size_t specksonne_table_words(void);
+size_t specksonne_cache_words(void);
+size_t specksonne_row_words(void);
+size_t specksonne_most_rows(void);
+size_t specksonne_most_form_bytes(void);
+
 /* A fresh gateway with this address: the policy without rows, no pair, empty caches. */
 void specksonne_fresh(uint64_t policy[SPECKSONNE_POLICY_WORDS],
                       uint64_t table[SPECKSONNE_TABLE_WORDS],
@@ -102,7 +151,7 @@ void specksonne_fresh(uint64_t policy[SPECKSONNE_POLICY_WORDS],
                       uint64_t inbound[SPECKSONNE_CACHE_WORDS], uint32_t address);
 
 /* Hands a policy file to the gateway: 5, 23, 24, 21, 20 or 22. An accepted policy empties both
-   caches; a refusal changes nothing. */
+   caches that are lent here, and no other; a refusal changes nothing. */
 uint64_t specksonne_policy(uint64_t policy[SPECKSONNE_POLICY_WORDS],
                            uint64_t outbound[SPECKSONNE_CACHE_WORDS],
                            uint64_t inbound[SPECKSONNE_CACHE_WORDS], const uint8_t *file,
@@ -168,9 +217,10 @@ uint64_t specksonne_print(const uint64_t *rows, size_t words, uint64_t direction
 uint64_t specksonne_search(const uint64_t *rows, size_t words, uint64_t direction,
                            const uint64_t selectors[10], uint64_t *number);
 
-/* The same over a list of `count` row records of 22 words each, in the order of a flat list. */
-uint64_t specksonne_search_records(const uint64_t (*rows)[22], size_t count, uint64_t direction,
-                                   const uint64_t selectors[10], uint64_t *number);
+/* The same over a list of `count` rows. */
+uint64_t specksonne_search_records(const struct specksonne_row *rows, size_t count,
+                                   uint64_t direction, const uint64_t selectors[10],
+                                   uint64_t *number);
 
 /* Whether a row matches, and the place of the first that does, counted from 0. */
 bool specksonne_first_match(const uint64_t *rows, size_t words, uint64_t direction,

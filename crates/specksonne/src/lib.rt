@@ -5,7 +5,7 @@ ghost use lib.ListN.{length, replicate};
 ghost use Rattle.selectors.specs.Value.{combination};
 ghost use Rattle.packet.specs.Read.{readPacket};
 ghost use Rattle.policy.specs.Policy.{orderedSearch, matchFrom};
-ghost use Rattle.policy.specs.Words.{policyRows, rowLimit};
+ghost use Rattle.policy.specs.Words.{policyRows, rowWords, rowLimit};
 ghost use Rattle.row_records.specs.Records.{rowOf};
 ghost use Rattle.policy_text.specs.Format.{parsePolicy};
 ghost use Rattle.policy_parse.specs.Parsing.{parsedIn, parsedRoom, parsedNumber};
@@ -13,7 +13,7 @@ ghost use Rattle.policy_print.specs.Printing.{printed, printedIn, printedRoom, 
 ghost use Rattle.normaliser.specs.Normalise.{normalised, normalisedBytes, normalisedNumber, normalisedCarries};
 ghost use Rattle.same_policy.specs.Same.{compared, comparedNumber};
 ghost use Rattle.spd.specs.Spd.{spdWords, accepting, spdAfter, cachesAfter, acceptanceNumber, acceptanceCarries};
-ghost use Rattle.spd_words.specs.Words.{addressOf, rowsOf};
+ghost use Rattle.spd_words.specs.Words.{addressOf, rowsOf, spdSize};
 ghost use Rattle.sad.specs.Pairs.{pairs, live, addOutcome, added, removeOutcome, removed, outcomeNumber};
 ghost use Rattle.spd_cache.specs.Cache.{emptyCache};
 ghost use Rattle.verdicts.specs.Calls.{fromSaBy};
@@ -23,28 +23,116 @@ ghost use Rattle.cache_in_place.specs.Lent.{cacheFrom, cacheWords};
 ghost use Rattle.answer_numbers.specs.Carries.{parsedCarries, printedCarries, comparedWords};
 ghost use Rattle.abi.specs.Words.{directionFrom, selectorsFrom, pairFrom, actionKind, actionNumber, isFound, placeFound, isReadable, readingWords, triggerWords};
 ghost use Rattle.specksonne.specs.Fresh.{cachesFrom};
+ghost use Rattle.specksonne.specs.Sizes.{abiNumber, versionNumber, tableSize, cacheSize, mostFormBytes};
 use packet::Reading;
 use policy::LIMIT;
+use policy::ROW_WORDS;
 use row_records::Row;
+use sad::PLACE_WORDS;
+use sad::PLACES;
 use selectors::Direction;
 use spd::Caches;
+use spd_cache::SLOTS;
 use spd_words::SPD_WORDS;
+
+// The words of the table of pairs, and of a cache: the slots' rows, the count of slots in use, the slot that is next.
+const TABLE_WORDS: usize = PLACES * PLACE_WORDS;
+
+const CACHE_WORDS: usize = SLOTS * ROW_WORDS + 2;
+
+// Bytes that hold every printed row, and every normal-form file: its header line and the limit's rows.
+const ROW_BYTES: usize = 120;
+
+const MOST_FORM_BYTES: usize = 9 + LIMIT * ROW_BYTES;
+
+const MAJOR: u64 = 0;
+
+const MINOR: u64 = 1;
+
+const PATCH: u64 = 0;
+
+// The number of the binary interface. It is a part of this function's name, to which the C header and the Rust wrapper refer: what was
+// compiled for another number does not link. It is raised, in this name, in `abiNumber`, in the header and in `ffi.rs`, whenever a program that
+// was compiled before could no longer be right: a size of lent words, what a word means, a parameter, a result, or an answer's carried
+// values change. A function that is new raises the version alone.
+#[no_mangle]
+pub extern "C" fn specksonne_abi_1() -> u64
+    ensures { λ r. ⌜ r ≡ abiNumber ⌝ }
+{
+    1
+}
+
+// The version, as one number.
+#[no_mangle]
+pub extern "C" fn specksonne_version() -> u64
+    ensures { λ r. ⌜ r ≡ versionNumber 0 1 0 ⌝ }
+{
+    MAJOR * 1000000 + MINOR * 1000 + PATCH
+}
+
+// The words of a gateway's policy.
+#[no_mangle]
+pub extern "C" fn specksonne_policy_words() -> usize
+    ensures { λ r. ⌜ r ≡ spdSize ⌝ }
+{
+    SPD_WORDS
+}
+
+// The words of the table of pairs.
+#[no_mangle]
+pub extern "C" fn specksonne_table_words() -> usize
+    ensures { λ r. ⌜ r ≡ tableSize ⌝ }
+{
+    TABLE_WORDS
+}
+
+// The words of a cache.
+#[no_mangle]
+pub extern "C" fn specksonne_cache_words() -> usize
+    ensures { λ r. ⌜ r ≡ cacheSize ⌝ }
+{
+    CACHE_WORDS
+}
+
+// The words of a row.
+#[no_mangle]
+pub extern "C" fn specksonne_row_words() -> usize
+    ensures { λ r. ⌜ r ≡ rowWords ⌝ }
+{
+    ROW_WORDS
+}
+
+// The most rows of a policy, and of a normal form for one direction.
+#[no_mangle]
+pub extern "C" fn specksonne_most_rows() -> usize
+    ensures { λ r. ⌜ r ≡ rowLimit ⌝ }
+{
+    LIMIT
+}
+
+// Bytes that are enough for every normal-form file.
+#[no_mangle]
+pub extern "C" fn specksonne_most_form_bytes() -> usize
+    ensures { λ r. ⌜ r ≡ mostFormBytes ⌝ }
+{
+    MOST_FORM_BYTES
+}
 
 // A fresh gateway (`spd::fresh`): its address, 'the policy without rows, no pair and empty caches'.
 #[no_mangle]
 pub extern "C" fn specksonne_fresh(
     policy: &mut [u64; SPD_WORDS],
-    table: &mut [u64; 1536],
-    outbound: &mut [u64; 706],
-    inbound: &mut [u64; 706],
+    table: &mut [u64; TABLE_WORDS],
+    outbound: &mut [u64; CACHE_WORDS],
+    inbound: &mut [u64; CACHE_WORDS],
     address: u32,
 )
     ensures { λ _. ⌜ now (policy .exit) ≡ spdWords address [] ⌝ }
-    ensures { λ _. ⌜ (now (table .exit) ≡ replicate 1536 0) × (pairs (now (table .exit)) ≡ []) ⌝ }
+    ensures { λ _. ⌜ (now (table .exit) ≡ replicate tableSize 0) × (pairs (now (table .exit)) ≡ []) ⌝ }
     ensures { λ _. ⌜ (now (outbound .exit) ≡ cacheWords emptyCache) × (now (inbound .exit) ≡ cacheWords emptyCache) ⌝ }
 {
     let caches = spd::fresh(policy, address);
-    *table = [0; 1536];
+    *table = [0; TABLE_WORDS];
     let empty_out = caches.outbound;
     cache_in_place::save(outbound, empty_out);
     let empty_in = caches.inbound;
@@ -55,8 +143,8 @@ pub extern "C" fn specksonne_fresh(
 #[no_mangle]
 pub extern "C" fn specksonne_policy(
     policy: &mut [u64; SPD_WORDS],
-    outbound: &mut [u64; 706],
-    inbound: &mut [u64; 706],
+    outbound: &mut [u64; CACHE_WORDS],
+    inbound: &mut [u64; CACHE_WORDS],
     bytes: &[u8],
     carries: &mut u64,
 ) -> u64
@@ -238,7 +326,7 @@ pub extern "C" fn specksonne_same(
 // Adds a pair (`sad::add`).
 #[no_mangle]
 pub extern "C" fn specksonne_add(
-    table: &mut [u64; 1536],
+    table: &mut [u64; TABLE_WORDS],
     protocol: u64,
     spi_in: u32,
     spi_out: u32,
@@ -254,7 +342,11 @@ pub extern "C" fn specksonne_add(
 
 // Removes a pair (`sad::remove`).
 #[no_mangle]
-pub extern "C" fn specksonne_remove(table: &mut [u64; 1536], protocol: u64, spi_in: u32) -> u64
+pub extern "C" fn specksonne_remove(
+    table: &mut [u64; TABLE_WORDS],
+    protocol: u64,
+    spi_in: u32,
+) -> u64
     ensures { λ r. ⌜ r ≡ outcomeNumber (removeOutcome (pairs (now (table .entry))) protocol «spi_in») ⌝ }
     ensures { λ _. ⌜ now (table .exit) ≡ removed (now (table .entry)) protocol «spi_in» ⌝ }
 {
@@ -263,7 +355,7 @@ pub extern "C" fn specksonne_remove(table: &mut [u64; 1536], protocol: u64, spi_
 
 // Whether a pair is live (`sad::is_live`).
 #[no_mangle]
-pub extern "C" fn specksonne_is_live(table: &[u64; 1536], protocol: u64, spi_in: u32) -> bool
+pub extern "C" fn specksonne_is_live(table: &[u64; TABLE_WORDS], protocol: u64, spi_in: u32) -> bool
     ensures { λ r. ⌜ r ≡ live protocol «spi_in» (pairs (now (table .entry))) ⌝ }
 {
     sad::is_live(table, protocol, spi_in)
@@ -273,8 +365,8 @@ pub extern "C" fn specksonne_is_live(table: &[u64; 1536], protocol: u64, spi_in:
 #[no_mangle]
 pub extern "C" fn specksonne_outbound(
     policy: &[u64; SPD_WORDS],
-    table: &[u64; 1536],
-    cache: &mut [u64; 706],
+    table: &[u64; TABLE_WORDS],
+    cache: &mut [u64; CACHE_WORDS],
     bytes: &[u8],
     carries: &mut [u64; 3],
 ) -> u64
@@ -291,8 +383,8 @@ pub extern "C" fn specksonne_outbound(
 #[no_mangle]
 pub extern "C" fn specksonne_inbound(
     policy: &[u64; SPD_WORDS],
-    table: &[u64; 1536],
-    cache: &mut [u64; 706],
+    table: &[u64; TABLE_WORDS],
+    cache: &mut [u64; CACHE_WORDS],
     bytes: &[u8],
     carries: &mut [u64; 3],
 ) -> u64
@@ -308,7 +400,7 @@ pub extern "C" fn specksonne_inbound(
 // A packet coming in from an association (`gateway::from_sa`).
 #[no_mangle]
 pub extern "C" fn specksonne_from_sa(
-    table: &[u64; 1536],
+    table: &[u64; TABLE_WORDS],
     protocol: u64,
     spi_in: u32,
     bytes: &[u8],

@@ -5,6 +5,9 @@
 //! as a pointer; a slice as a pointer and a count of elements.
 #![allow(unsafe_code)]
 
+/// The number of the binary interface that this crate is written for. `c/specksonne.h` says when it
+/// is raised.
+pub const ABI: u64 = 1;
 /// The words of a gateway's policy: its address, the counts of normal-form rows for out and in, and
 /// room for 256 rows for each.
 pub const POLICY_WORDS: usize = 11_267;
@@ -14,6 +17,10 @@ pub const TABLE_WORDS: usize = 1536;
 pub const CACHE_WORDS: usize = 706;
 /// The words of a row.
 pub const ROW_WORDS: usize = 22;
+/// The most rows of a policy and of a normal form.
+pub const MOST_ROWS: usize = 256;
+/// Bytes that are enough for every normal-form file: the header line, and 120 for each row.
+pub const MOST_FORM_BYTES: usize = 9 + MOST_ROWS * 120;
 
 /// A gateway's policy.
 pub type PolicyWords = [u64; POLICY_WORDS];
@@ -36,6 +43,14 @@ mod raw {
 
     #[rustfmt::skip]
     extern "C" {
+        pub fn specksonne_abi_1() -> u64;
+        pub fn specksonne_version() -> u64;
+        pub fn specksonne_policy_words() -> usize;
+        pub fn specksonne_table_words() -> usize;
+        pub fn specksonne_cache_words() -> usize;
+        pub fn specksonne_row_words() -> usize;
+        pub fn specksonne_most_rows() -> usize;
+        pub fn specksonne_most_form_bytes() -> usize;
         pub fn specksonne_fresh(policy: &mut PolicyWords, table: &mut Table, outbound: &mut CacheWords, inbound: &mut CacheWords, address: u32);
         pub fn specksonne_policy(policy: &mut PolicyWords, outbound: &mut CacheWords, inbound: &mut CacheWords, bytes: *const u8, length: usize, carries: &mut u64) -> u64;
         pub fn specksonne_read(direction: u64, bytes: *const u8, length: usize, selectors: &mut SelectorWords) -> bool;
@@ -60,7 +75,64 @@ mod raw {
 // overlaps nothing else, since they are Rust's; array lengths are those of the library's
 // signatures; the library keeps no pointer, and is proved to end and to touch nothing else.
 
-/// A fresh gateway.
+/// The number of the library's binary interface.
+pub fn abi() -> u64 {
+    unsafe { LINKED_ABI() }
+}
+
+// The function carries the number in its name, so that this crate links with no library of another
+// number, whichever functions a program calls.
+#[used]
+static LINKED_ABI: unsafe extern "C" fn() -> u64 = raw::specksonne_abi_1;
+
+/// The library's version: major * 1,000,000 + minor * 1,000 + patch.
+pub fn version() -> u64 {
+    unsafe { raw::specksonne_version() }
+}
+
+/// The sizes of what is lent.
+#[derive(Clone, Copy, Debug, PartialEq, Eq)]
+pub struct Sizes {
+    /// The words of a gateway's policy.
+    pub policy_words: usize,
+    /// The words of the table of SA pairs.
+    pub table_words: usize,
+    /// The words of a cache.
+    pub cache_words: usize,
+    /// The words of a row.
+    pub row_words: usize,
+    /// The most rows of a policy and of a normal form.
+    pub most_rows: usize,
+    /// Bytes that are enough for every normal-form file.
+    pub most_form_bytes: usize,
+}
+
+/// The sizes that this crate was compiled with.
+pub const SIZES: Sizes = Sizes {
+    policy_words: POLICY_WORDS,
+    table_words: TABLE_WORDS,
+    cache_words: CACHE_WORDS,
+    row_words: ROW_WORDS,
+    most_rows: MOST_ROWS,
+    most_form_bytes: MOST_FORM_BYTES,
+};
+
+/// The sizes that the library was built with.
+pub fn sizes() -> Sizes {
+    unsafe {
+        Sizes {
+            policy_words: raw::specksonne_policy_words(),
+            table_words: raw::specksonne_table_words(),
+            cache_words: raw::specksonne_cache_words(),
+            row_words: raw::specksonne_row_words(),
+            most_rows: raw::specksonne_most_rows(),
+            most_form_bytes: raw::specksonne_most_form_bytes(),
+        }
+    }
+}
+
+/// A fresh gateway. Panics, before a word is written, where the library is not the one that this
+/// crate was written for.
 pub fn fresh(
     policy: &mut PolicyWords,
     table: &mut Table,
@@ -68,6 +140,7 @@ pub fn fresh(
     inbound: &mut CacheWords,
     address: u32,
 ) {
+    assert_eq!((abi(), sizes()), (ABI, SIZES), "the library is another than this crate is for");
     unsafe { raw::specksonne_fresh(policy, table, outbound, inbound, address) }
 }
 

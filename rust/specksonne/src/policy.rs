@@ -1,14 +1,9 @@
 //! Policy files: their rows, the ordered search, and the normal form.
 
-use crate::ffi::{self, ROW_WORDS};
+use crate::ffi::{self, MOST_FORM_BYTES, MOST_ROWS, ROW_WORDS};
 use crate::{Direction, Refusal, Selectors};
 use std::error::Error;
 use std::fmt;
-
-/// The most rows of a policy and of a normal form.
-pub const MOST_ROWS: usize = 256;
-/// The most bytes of a normal-form file: the header line, and 120 bytes for each row.
-pub const MOST_NORMAL_FORM_BYTES: usize = 9 + MOST_ROWS * 120;
 
 /// What is done with a packet that a row holds.
 #[derive(Clone, Copy, Debug, PartialEq, Eq)]
@@ -155,7 +150,7 @@ pub fn normalise_into(
 /// assert_ne!(normalise(halves, Direction::In).unwrap(), form);
 /// ```
 pub fn normalise(file: &[u8], direction: Direction) -> Result<Vec<u8>, Refusal> {
-    let mut room = vec![0; MOST_NORMAL_FORM_BYTES];
+    let mut room = vec![0; MOST_FORM_BYTES];
     let written = normalise_into(file, direction, &mut room)?;
     room.truncate(written);
     Ok(room)

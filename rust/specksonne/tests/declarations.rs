@@ -1,6 +1,7 @@
 //! The functions as they are written three times: exported by the proved crate, declared for C in
 //! the header, and declared for Rust in `ffi.rs`. Nothing else holds the three to each other.
 
+use specksonne::ffi::{self, CACHE_WORDS, POLICY_WORDS, ROW_WORDS, TABLE_WORDS};
 use std::collections::BTreeMap;
 use std::fs;
 use std::path::Path;
@@ -55,8 +56,9 @@ fn count(written: &str) -> usize {
     if let Ok(number) = written.parse() {
         return number;
     }
-    let sources = ["crates/policy/src/lib.rt", "crates/spd_words/src/lib.rt"].map(text).concat();
-    let definition = format!("pub const {written}: usize = ");
+    let crates = ["policy", "sad", "spd_cache", "spd_words", "specksonne"];
+    let sources = crates.map(|name| text(&format!("crates/{name}/src/lib.rt"))).concat();
+    let definition = format!("const {written}: usize = ");
     let (value, _) = between(&sources, &definition, ";").unwrap_or_else(|| panic!("{written}"));
     value.split(" + ").map(|term| term.split(" * ").map(count).product::<usize>()).sum()
 }
@@ -82,16 +84,16 @@ fn exported_type(kind: &str) -> Vec<String> {
 
 fn rust_type(kind: &str) -> Vec<String> {
     let kind = [
-        ("PolicyWords", "[u64; 11267]"),
-        ("Table", "[u64; 1536]"),
-        ("CacheWords", "[u64; 706]"),
-        ("SelectorWords", "[u64; 10]"),
-        ("RangeWords", "[u64; 20]"),
+        ("PolicyWords", POLICY_WORDS),
+        ("Table", TABLE_WORDS),
+        ("CacheWords", CACHE_WORDS),
+        ("SelectorWords", 10),
+        ("RangeWords", 20),
     ]
     .iter()
-    .fold(kind.to_string(), |kind, (name, array)| kind.replace(name, array));
+    .fold(kind.to_string(), |kind, (name, words)| kind.replace(name, &format!("[u64; {words}]")));
     match kind.strip_prefix('*') {
-        Some("const RowWords") => vec!["const u64 22".to_string()],
+        Some("const RowWords") => vec![format!("const u64 {ROW_WORDS}")],
         Some(pointer) => vec![pointer.to_string()],
         None => exported_type(&kind),
     }
@@ -105,14 +107,18 @@ fn c_signatures(header: &str) -> Signatures {
     };
     let mut found = Signatures::new();
     for statement in without_comments(header).split(';') {
-        let call = statement.split_once(" specksonne_").and_then(|(_, call)| call.rsplit_once(')'));
-        let Some((name, parameters)) = call.and_then(|(call, _)| call.split_once('(')) else {
+        let Some((result, call)) = statement.split_once(" specksonne_") else {
             continue;
         };
-        let result = statement.trim().split(' ').next().unwrap();
+        // A function ends in its parameters; the variable that refers to one does not.
+        let Some((name, parameters)) = call.strip_suffix(')').and_then(|call| call.split_once('('))
+        else {
+            continue;
+        };
+        let parameters = parameters.split(',').filter(|&one| one != "void");
         let signature = Signature {
-            parameters: parameters.split(',').map(|one| c_type(one.trim(), &number)).collect(),
-            result: c_name(result.rsplit('\n').next().unwrap()),
+            parameters: parameters.map(|one| c_type(one.trim(), &number)).collect(),
+            result: c_name(result.split_whitespace().last().unwrap()),
         };
         found.insert(format!("specksonne_{name}"), signature);
     }
@@ -131,6 +137,9 @@ fn c_type(parameter: &str, number: &dyn Fn(&str) -> String) -> String {
         Some(kind) => ("const", kind),
         None => ("mut", parameter),
     };
+    if kind.starts_with("struct specksonne_row *") {
+        return format!("{access} u64 {}", number("SPECKSONNE_ROW_WORDS"));
+    }
     let element = c_name(kind.split(' ').next().unwrap());
     match between(kind, "[", "]") {
         Some((count, _)) => format!("{access} {element} {}", number(count)),
@@ -155,9 +164,18 @@ fn c_name(kind: &str) -> String {
 fn three_times_the_same_functions() {
     let source = text("crates/specksonne/src/lib.rt");
     let exported = rust_like(&source, "pub extern \"C\" fn ", &['\n', '{'], exported_type);
-    assert_eq!(exported.len(), 17);
+    assert_eq!(exported.len(), 25);
     let declared = text("rust/specksonne/src/ffi.rs");
     let declared = rust_like(&declared, "        pub fn ", &[';'], rust_type);
     assert_eq!(declared, exported);
     assert_eq!(c_signatures(&text("c/specksonne.h")), exported);
+}
+
+#[test]
+fn the_constants_are_the_librarys() {
+    assert_eq!((ffi::abi(), ffi::sizes()), (ffi::ABI, ffi::SIZES));
+    let source = text("crates/specksonne/src/lib.rt");
+    assert!(source.contains(&format!("fn specksonne_abi_{}()", ffi::ABI)));
+    let version = env!("CARGO_PKG_VERSION").split('.').map(|part| part.parse::<u64>().unwrap());
+    assert_eq!(ffi::version(), version.fold(0, |number, part| number * 1000 + part));
 }

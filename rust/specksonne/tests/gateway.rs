@@ -1,8 +1,8 @@
 //! The wrapper: sizes, refusals, and what a gateway shows of itself.
 
 use specksonne::{
-    normalise, normalise_into, read, same_policy, triggering_header, Direction, Gateway, Pair,
-    Policy, Ranges, Refusal, Selectors, Verdict, AH, ESP, MOST_NORMAL_FORM_BYTES,
+    normalise, normalise_into, read, same_policy, triggering_header, Action, Direction, Gateway,
+    Pair, Policy, Ranges, Refusal, Refused, Selectors, Verdict, AH, ESP, MOST_NORMAL_FORM_BYTES,
 };
 use std::error::Error;
 use std::net::Ipv4Addr;
@@ -255,4 +255,24 @@ fn a_policy_shows_which_row_matches() {
     assert_eq!(policy.search(Direction::Out, &selectors).to_string(), "protect-255");
     let empty = Policy::parse(b"policy\t1\n").unwrap();
     assert_eq!(empty.first_match(Direction::Out, &selectors), None);
+}
+
+/// An empty slice's pointer points to nothing, and a call does not go through it.
+#[test]
+fn empty_slices() {
+    let mut gateway = Gateway::new(GATEWAY);
+    gateway.add(&pair(ESP, 256, 1)).unwrap();
+    assert_eq!(gateway.set_policy(&[]), Err(Refusal::NotHeader));
+    assert_eq!(gateway.outbound(&[]), Verdict::NotReadable);
+    assert_eq!(gateway.inbound(&[]), Verdict::NotReadable);
+    assert_eq!(gateway.from_sa(ESP, 256, &[]), Verdict::NotReadable);
+    assert_eq!((read(&[], Direction::In), triggering_header(&[])), (None, None));
+    assert_eq!(normalise(&[], Direction::Out), Err(Refusal::NotHeader));
+    assert_eq!(same_policy(&[], &[], Direction::In), Err(Refused::First(Refusal::NotHeader)));
+    assert_eq!(gateway.cached_rows(Direction::Out), [""; 0]);
+    let selectors = read(&udp(1, 2), Direction::Out).unwrap();
+    let policy = Policy::parse(&file(&[])).unwrap();
+    assert_eq!(policy.search(Direction::Out, &selectors), Action::Discard);
+    assert_eq!(policy.search_records(Direction::Out, &selectors), Action::Discard);
+    assert_eq!(policy.first_match(Direction::Out, &selectors), None);
 }
