@@ -31,12 +31,10 @@ pub fn add_all(name: &OsStr, gateway: &mut Gateway) -> Result<(), Failure> {
 /// The pair in a line, or which field is none, and why.
 fn pair(line: &str) -> Result<Pair, String> {
     let fields: Vec<&str> = line.split('\t').collect();
-    let &[protocol, inbound_spi, outbound_spi, number, ref ranges @ ..] = fields.as_slice() else {
-        return Err(count_fault(line, fields.len()));
+    let &[protocol, inbound_spi, outbound_spi, number, a, b, c, d, e] = fields.as_slice() else {
+        let (found, spaces) = (fields.len(), line.contains(' '));
+        return Err(Reason::Fields { expected: FIELDS, found, spaces }.to_string());
     };
-    if fields.len() != FIELDS {
-        return Err(count_fault(line, fields.len()));
-    }
     Ok(Pair {
         protocol: match protocol {
             "esp" => ESP,
@@ -46,7 +44,7 @@ fn pair(line: &str) -> Result<Pair, String> {
         inbound_spi: spi("inbound SPI", inbound_spi)?,
         outbound_spi: spi("outbound SPI", outbound_spi)?,
         number: decimal(number, u32::MAX).map_err(|reason| fault("number", number, reason))?.into(),
-        ranges: Ranges::parse(&ranges.join("\t")).map_err(|fault| fault.to_string())?,
+        ranges: Ranges::parse(&[a, b, c, d, e].join("\t")).map_err(|fault| fault.to_string())?,
     })
 }
 
@@ -59,10 +57,6 @@ fn spi(field: &str, text: &str) -> Result<u32, String> {
         return Err(fault(field, text, "hex digits are expected after 0x"));
     }
     u32::from_str_radix(digits, 16).map_err(|_| fault(field, text, "above 0xffffffff"))
-}
-
-fn count_fault(line: &str, found: usize) -> String {
-    Reason::Fields { expected: FIELDS, found, spaces: line.contains(' ') }.to_string()
 }
 
 fn fault(field: &str, text: &str, reason: impl Display) -> String {
