@@ -1,130 +1,128 @@
 //! The command line's arguments.
 
-use crate::Failure;
-use specksonne::{Direction, Selectors};
+use crate::words::{usage, Words};
+use crate::{help, Failure};
+use specksonne::{Direction, Ranges, Selectors};
+use std::ffi::{OsStr, OsString};
 use std::net::Ipv4Addr;
-use std::str::FromStr;
 
-pub const HELP: &str = "\
-specksonne check POLICY
-    says whether a gateway accepts the policy file, and how many rows it has
-specksonne normalise out|in POLICY
-    prints the normal-form file for one direction
-specksonne same out|in A B
-    says `same` where two policies treat every packet of a direction alike, else `different`
-specksonne explain POLICY out|in LOCAL REMOTE PROTOCOL LPORT RPORT
-    says which row of the file decides, and which row of the normal form
-specksonne decide --address A --policy P [--pairs F] [--direction out|in] CAPTURE
-    decides each packet of a capture (classic pcap; Ethernet or raw IP), as going out unless
-    --direction says in; prints for each its number in the capture, the verdict's number and its
-    words, and a summary in lines that begin with #
-specksonne --help
-
-POLICY, A, B, P, F and CAPTURE are files; - is standard input (once). LOCAL and REMOTE are
-addresses, PROTOCOL is 0 to 255, a port 0 to 65535, or opaque where a packet shows none.
-
-A file of pairs has one SA pair to a line, fields parted by one tab: esp or ah, inbound SPI,
-outbound SPI, the number of the protect-N rows that it serves, and five ranges as in a policy file.
-Empty lines and lines that begin with # are passed over.
-
-exit status: 0 done; 1 refused: standard error has document 01's number and words; 2 the arguments,
-or a file that cannot be read
-
-examples:
-    specksonne check office.policy
-    specksonne normalise out office.policy > office.out
-    specksonne same in office.policy new-office.policy
-    specksonne explain office.policy out 10.1.0.5 192.0.2.9 6 40000 22
-    specksonne decide --address 192.0.2.1 --policy office.policy --pairs office.pairs trace.pcap
-    tcpdump -w - -c 100 | specksonne decide --address 192.0.2.1 --policy office.policy -
-";
+const VERSION: &str = concat!("specksonne ", env!("CARGO_PKG_VERSION"), "\n");
 
 /// What the arguments ask for.
 pub enum Task {
-    Help,
-    Check { policy: String },
-    Normalise { direction: Direction, policy: String },
-    Same { direction: Direction, first: String, second: String },
-    Explain { policy: String, direction: Direction, selectors: Selectors },
+    Print(&'static str),
+    Check { policy: OsString },
+    Normalise { direction: Direction, policy: OsString },
+    Same { direction: Direction, first: OsString, second: OsString },
+    Explain { direction: Direction, policy: OsString, selectors: Selectors },
     Decide(Asked),
 }
 
 /// What `decide` is asked.
 pub struct Asked {
     pub address: Ipv4Addr,
-    pub policy: String,
-    pub pairs: Option<String>,
+    pub policy: OsString,
+    pub pairs: Option<OsString>,
     pub direction: Direction,
-    pub capture: String,
+    pub capture: OsString,
 }
 
-pub fn parse(arguments: impl Iterator<Item = String>) -> Result<Task, Failure> {
-    let words: Vec<String> = arguments.collect();
-    if words.iter().any(|word| word == "--help" || word == "-h") {
-        return Ok(Task::Help);
+pub fn parse(arguments: impl Iterator<Item = OsString>) -> Result<Task, Failure> {
+    let mut words = Words::split(arguments)?;
+    if words.has("--help") || words.has("-h") {
+        return Ok(Task::Print(help::COMMANDS));
     }
-    let words: Vec<&str> = words.iter().map(String::as_str).collect();
-    let task = match words.as_slice() {
-        ["check", policy] => Task::Check { policy: policy.to_string() },
-        ["normalise", way, policy] => {
-            Task::Normalise { direction: direction(way)?, policy: policy.to_string() }
+    if words.has("--version") {
+        return Ok(Task::Print(VERSION));
+    }
+    let operands = std::mem::take(&mut words.operands);
+    let Some((command, operands)) = operands.split_first() else {
+        return Err(usage("no command".to_string()));
+    };
+    let task = match command.to_str() {
+        Some("decide") => Task::Decide(asked(&mut words, operands)?),
+        Some(command) => {
+            words.no_options(command)?;
+            without_options(command, operands)?
         }
-        ["same", way, first, second] => Task::Same {
-            direction: direction(way)?,
-            first: first.to_string(),
-            second: second.to_string(),
-        },
-        ["explain", policy, way, values @ ..] => Task::Explain {
-            policy: policy.to_string(),
-            direction: direction(way)?,
-            selectors: selectors(values)?,
-        },
-        ["decide", rest @ ..] => Task::Decide(asked(rest)?),
-        [] => return Err(usage("no command".to_string())),
-        [command, ..] => {
-            return Err(usage(format!("cannot make sense of {command:?} and what follows it")))
-        }
+        None => return Err(no_command(command)),
     };
     standard_input_once(&task)?;
     Ok(task)
 }
 
-fn asked(words: &[&str]) -> Result<Asked, Failure> {
-    let (mut address, mut policy, mut pairs, mut way, mut capture) = (None, None, None, None, None);
-    let mut rest = words.iter();
-    while let Some(&word) = rest.next() {
-        let place = match word {
-            "--address" => &mut address,
-            "--policy" => &mut policy,
-            "--pairs" => &mut pairs,
-            "--direction" => &mut way,
-            _ if word.starts_with("--") => return Err(usage(format!("no option {word}"))),
-            _ => &mut capture,
-        };
-        let value = if word.starts_with("--") { rest.next().copied() } else { Some(word) };
-        let value = value.ok_or_else(|| usage(format!("{word} needs a value")))?;
-        if place.replace(value.to_string()).is_some() {
-            return Err(usage(format!("{word} is one too many")));
+/// The task of a command that takes no options.
+fn without_options(command: &str, operands: &[OsString]) -> Result<Task, Failure> {
+    Ok(match (command, operands) {
+        ("check", [policy]) => Task::Check { policy: policy.clone() },
+        ("normalise", [way, policy]) => {
+            Task::Normalise { direction: direction(way)?, policy: policy.clone() }
         }
-    }
-    let needed = |value: Option<String>, what: &str| {
-        value.ok_or_else(|| usage(format!("decide needs {what}")))
+        ("same", [way, first, second]) => {
+            Task::Same { direction: direction(way)?, first: first.clone(), second: second.clone() }
+        }
+        ("explain", [way, policy, local, remote, protocol, local_port, remote_port]) => {
+            let values = [local, remote, protocol, local_port, remote_port];
+            Task::Explain {
+                direction: direction(way)?,
+                policy: policy.clone(),
+                selectors: selectors(values)?,
+            }
+        }
+        ("help", []) => Task::Print(help::COMMANDS),
+        ("help", [topic]) => Task::Print(help::topic(&topic.to_string_lossy()).map_err(usage)?),
+        ("check", _) => return Err(takes(command, "POLICY")),
+        ("normalise", _) => return Err(takes(command, "out|in POLICY")),
+        ("same", _) => return Err(takes(command, "out|in A B")),
+        ("explain", _) => {
+            return Err(takes(command, "out|in POLICY LOCAL REMOTE PROTOCOL LPORT RPORT"))
+        }
+        ("help", _) => return Err(takes(command, "one topic")),
+        _ => return Err(no_command(OsStr::new(command))),
+    })
+}
+
+fn takes(command: &str, operands: &str) -> Failure {
+    usage(format!("{command} takes {operands}"))
+}
+
+fn no_command(word: &OsStr) -> Failure {
+    usage(format!("{word:?} is no command"))
+}
+
+fn asked(words: &mut Words, operands: &[OsString]) -> Result<Asked, Failure> {
+    let mut needed =
+        |name: &str| words.take(name).ok_or_else(|| usage(format!("decide needs {name}")));
+    let (address, policy) = (needed("--address")?, needed("--policy")?);
+    let pairs = words.take("--pairs");
+    let (first, capture) = match operands {
+        // A file of that name is ./out or ./in.
+        [way] if direction(way).is_ok() => return Err(usage("decide needs a capture".to_string())),
+        [capture] => (None, capture),
+        [way, capture] => (Some(way.clone()), capture),
+        _ => return Err(takes("decide", "one capture")),
+    };
+    let way = match (first, words.take("--direction")) {
+        (Some(_), Some(_)) => return Err(usage("the direction is given twice".to_string())),
+        (first, option) => first.or(option),
     };
     Ok(Asked {
-        address: value(&needed(address, "--address")?, "an address")?,
-        policy: needed(policy, "--policy")?,
+        address: self::address(&address)?,
+        policy,
         pairs,
         direction: way.map_or(Ok(Direction::Out), |way| direction(&way))?,
-        capture: needed(capture, "a capture")?,
+        capture: capture.clone(),
     })
 }
 
 /// Standard input can be read once only.
 fn standard_input_once(task: &Task) -> Result<(), Failure> {
-    let files: Vec<&str> = match task {
+    let files = match task {
         Task::Same { first, second, .. } => vec![first, second],
         Task::Decide(asked) => {
-            vec![&asked.policy, &asked.capture, asked.pairs.as_deref().unwrap_or("")]
+            let mut files = vec![&asked.policy, &asked.capture];
+            files.extend(&asked.pairs);
+            files
         }
         _ => Vec::new(),
     };
@@ -134,39 +132,34 @@ fn standard_input_once(task: &Task) -> Result<(), Failure> {
     Ok(())
 }
 
-fn direction(word: &str) -> Result<Direction, Failure> {
-    match word {
-        "out" => Ok(Direction::Out),
-        "in" => Ok(Direction::In),
+fn direction(word: &OsStr) -> Result<Direction, Failure> {
+    match word.to_str() {
+        Some("out") => Ok(Direction::Out),
+        Some("in") => Ok(Direction::In),
         _ => Err(usage(format!("{word:?} is no direction: out or in"))),
     }
 }
 
-fn selectors(words: &[&str]) -> Result<Selectors, Failure> {
-    let [local, remote, protocol, local_port, remote_port] = words else {
-        let wanted = "explain takes LOCAL REMOTE PROTOCOL LPORT RPORT after the direction";
-        return Err(usage(wanted.to_string()));
-    };
-    Ok(Selectors {
-        local: value(local, "an address")?,
-        remote: value(remote, "an address")?,
-        protocol: value(protocol, "a protocol")?,
-        local_port: port(local_port)?,
-        remote_port: port(remote_port)?,
-    })
+fn address(word: &OsStr) -> Result<Ipv4Addr, Failure> {
+    let address = word.to_str().and_then(|text| text.parse().ok());
+    address.ok_or_else(|| usage(format!("{word:?} is no address: four decimals parted by dots")))
 }
 
-fn port(word: &str) -> Result<Option<u16>, Failure> {
-    match word {
-        "opaque" => Ok(None),
-        _ => value(word, "a port").map(Some),
+/// Five values, spelled as the library reads them in a policy file.
+fn selectors(words: [&OsString; 5]) -> Result<Selectors, Failure> {
+    let text = words.map(|word| word.to_string_lossy()).join("\t");
+    let Ranges(ranges) = Ranges::parse(&text).map_err(|fault| usage(fault.to_string()))?;
+    if let Some(place) = ranges.iter().position(|(low, high)| low != high) {
+        let word = words[place];
+        return Err(usage(format!("{word:?} is no single value, which explain takes")));
     }
-}
-
-fn value<T: FromStr>(word: &str, what: &str) -> Result<T, Failure> {
-    word.parse().map_err(|_| usage(format!("{word:?} is not {what}")))
-}
-
-fn usage(message: String) -> Failure {
-    Failure::Usage(format!("{message}; `specksonne --help` says more"))
+    // Each value lies within its field.
+    let [local, remote, protocol, local_port, remote_port] = ranges.map(|(value, _)| value);
+    Ok(Selectors {
+        local: Ipv4Addr::from(local as u32),
+        remote: Ipv4Addr::from(remote as u32),
+        protocol: protocol as u8,
+        local_port: u16::try_from(local_port).ok(),
+        remote_port: u16::try_from(remote_port).ok(),
+    })
 }

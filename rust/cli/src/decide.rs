@@ -1,53 +1,84 @@
 //! Decides the packets of a capture.
 
 use crate::arguments::Asked;
-use crate::pcap::Capture;
+use crate::capture::{Capture, Record};
 use crate::progress::{while_working, Packets};
-use crate::{input, pairs, Failure};
+use crate::{input, pairs, refusal, Failure};
 use specksonne::{Direction, Gateway, Verdict};
 use std::collections::BTreeMap;
 use std::io::{self, Write};
 
-/// How many packets had an answer: the paper's number and words, without what it carries.
+/// How many packets had an answer, by the paper's number and words, without what it carries; and
+/// how many frames had none, by the reason.
 #[derive(Default)]
 struct Summary {
-    counts: BTreeMap<u8, (String, u64)>,
-    others: u64,
+    frames: u64,
+    answers: BTreeMap<u8, (String, u64)>,
+    others: BTreeMap<String, u64>,
 }
 
 pub fn decide(asked: &Asked, output: &mut impl Write) -> Result<(), Failure> {
+    let mut gateway = gateway(asked)?;
+    let input = input::open(&asked.capture)?;
+    let mut capture =
+        Capture::open(input.bytes).map_err(|error| input::unreadable(&asked.capture, &error))?;
+    let (mut summary, mut progress) = (Summary::default(), Packets::new());
+    let read = loop {
+        match capture.next_record() {
+            Ok(Some(record)) => summary.line(&record, asked.direction, &mut gateway, output)?,
+            Ok(None) => break Ok(()),
+            Err(error) => break Err(error),
+        }
+        if input.live {
+            output.flush()?;
+        }
+        progress.show(summary.frames);
+    };
+    progress.end();
+    summary.write(output)?;
+    // Before a message on standard error.
+    output.flush()?;
+    read.map_err(|error| input::unreadable(&asked.capture, &error))
+}
+
+/// The gateway with its policy and pairs.
+fn gateway(asked: &Asked) -> Result<Gateway, Failure> {
     let mut gateway = Gateway::new(asked.address);
     let policy = input::read(&asked.policy)?;
     let accepted = while_working(|| gateway.set_policy(&policy));
-    accepted.map_err(|refusal| Failure::refused_policy(&asked.policy, &policy, refusal))?;
+    accepted.map_err(|refusal| refusal::policy(&asked.policy, &policy, refusal))?;
     if let Some(pairs) = &asked.pairs {
         pairs::add_all(pairs, &mut gateway)?;
     }
-    let damaged = |error| input::unreadable(&asked.capture, &error);
-    let mut capture = Capture::open(input::open(&asked.capture)?).map_err(damaged)?;
-    let (mut summary, mut frame) = (Summary::default(), Vec::new());
-    let mut progress = Packets::new();
-    let mut number: u64 = 0;
-    while capture.next_frame(&mut frame).map_err(damaged)? {
-        number += 1;
-        progress.show(number);
-        let Some(packet) = capture.packet(&frame) else {
-            writeln!(output, "{number}\t-\tno IPv4 packet")?;
-            summary.others += 1;
-            continue;
-        };
-        let verdict = match asked.direction {
-            Direction::Out => gateway.outbound(packet),
-            Direction::In => gateway.inbound(packet),
-        };
-        writeln!(output, "{number}\t{}\t{verdict}", verdict.number())?;
-        summary.count(verdict);
-    }
-    progress.end();
-    Ok(summary.write(number, output)?)
+    Ok(gateway)
 }
 
 impl Summary {
+    /// Writes the line of a frame, and counts it.
+    fn line(
+        &mut self,
+        record: &Record,
+        direction: Direction,
+        gateway: &mut Gateway,
+        output: &mut impl Write,
+    ) -> io::Result<()> {
+        self.frames += 1;
+        let frame = self.frames;
+        let packet = match record.packet() {
+            Ok(packet) => packet,
+            Err(none) => {
+                *self.others.entry(none.kind()).or_default() += 1;
+                return writeln!(output, "{frame}\t-\t{none}");
+            }
+        };
+        let verdict = match direction {
+            Direction::Out => gateway.outbound(packet),
+            Direction::In => gateway.inbound(packet),
+        };
+        self.count(verdict);
+        writeln!(output, "{frame}\t{}\t{verdict}", verdict.number())
+    }
+
     fn count(&mut self, verdict: Verdict) {
         let words = || match verdict {
             Verdict::Protect { .. } => "protect".to_string(),
@@ -55,17 +86,17 @@ impl Summary {
             Verdict::ToIpsec { .. } => "to AH/ESP".to_string(),
             _ => verdict.to_string(),
         };
-        let entry = self.counts.entry(verdict.number()).or_insert_with(|| (words(), 0));
+        let entry = self.answers.entry(verdict.number()).or_insert_with(|| (words(), 0));
         entry.1 += 1;
     }
 
-    fn write(&self, frames: u64, output: &mut impl Write) -> io::Result<()> {
-        writeln!(output, "# {frames} packets")?;
-        for (number, (words, count)) in &self.counts {
+    fn write(&self, output: &mut impl Write) -> io::Result<()> {
+        writeln!(output, "# {} packets", self.frames)?;
+        for (number, (words, count)) in &self.answers {
             writeln!(output, "# {number} {words}: {count}")?;
         }
-        if self.others > 0 {
-            writeln!(output, "# no IPv4 packet: {}", self.others)?;
+        for (reason, count) in &self.others {
+            writeln!(output, "# {reason}: {count}")?;
         }
         Ok(())
     }

@@ -31,5 +31,5 @@ pub use ffi::{MOST_FORM_BYTES as MOST_NORMAL_FORM_BYTES, MOST_ROWS};
 pub use gateway::Gateway;
 pub use pair::{Pair, Ranges, AH, ESP};
 pub use policy::{normalise, normalise_into, same_policy, Action, Policy, Refused};
-pub use row_fault::{ranges_fault, row_fault, Field, Reason, RowFault};
+pub use row_fault::{number as decimal, ranges_fault, row_fault, Field, Reason, RowFault};
 pub use selectors::{read, triggering_header, Direction, Selectors};

@@ -311,8 +311,8 @@ fn action(text: &str) -> Result<(), Reason> {
     }
 }
 
-/// A decimal of at most `most`.
-fn number(text: &str, most: u32) -> Result<u32, Reason> {
+/// A decimal of at most `most`, as strict as in a policy file: digits without a leading zero.
+pub fn number(text: &str, most: u32) -> Result<u32, Reason> {
     let own = shown(text.as_bytes());
     if text.is_empty() || !text.bytes().all(|byte| byte.is_ascii_digit()) {
         return Err(Reason::NotNumber(own));
