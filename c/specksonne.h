@@ -1,8 +1,8 @@
 /*
  * Specksonne: the policy gate of an IPsec gateway (RFC 4301, IPv4).
  *
- * Each function is proved, or hands its arguments on to one proved call: it ends, for any
- * arguments, and touches no memory but what it is lent. Link with target/staticlib/libspecksonne.a, which
+ * Each function is proved to end, for any arguments, to touch no memory but what it is lent, and to
+ * answer by document 01's rules. Link with target/staticlib/libspecksonne.a, which
  * `rt staticlib specksonne` proves and writes (x86-64).
  *
  * What the caller owes:
