@@ -1,8 +1,8 @@
 /*
  * Specksonne: the policy gate of an IPsec gateway (RFC 4301, IPv4).
  *
- * Each function hands its arguments on to one proved call: it ends, for any arguments, and
- * touches no memory but what it is lent. Link with target/staticlib/libspecksonne.a, which
+ * Each function is proved to end, for any arguments, to touch no memory but what it is lent, and to
+ * answer by document 01's rules. Link with target/staticlib/libspecksonne.a, which
  * `rt staticlib specksonne` proves and writes (x86-64).
  *
  * What the caller owes:
@@ -17,8 +17,8 @@
  * may share one policy and one table, each with caches of its own, as long as nobody writes to the
  * policy or the table meanwhile (specksonne_policy, specksonne_add, specksonne_remove).
  *
- * Caches: a cache holds rows of the policy that answered before. When a policy is accepted every
- * cache that was used with it must be emptied before it is used again, or it may pass in clear what
+ * Caches: a cache holds rows of the policy that was searched. When a policy is accepted, every
+ * cache that was used before must be emptied before it is used again, or it may pass in clear what
  * the new policy forbids. specksonne_policy empties the two that it is given; a further cache, of
  * another thread, is emptied by its owner: zeros are an empty cache.
  *
@@ -46,7 +46,7 @@ extern "C" {
 
 /*
  * The number of the binary interface. A program refers to the function that carries it in its name,
- * so that one which was compiled with another header does not link. It is raised whenever a program
+ * so that one which was compiled for another number does not link. It is raised whenever a program
  * that was compiled before could no longer be right: a size below, what a word means, a parameter,
  * a result or what an answer carries has changed. A function that is new raises the version alone.
  */
