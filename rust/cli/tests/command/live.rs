@@ -5,6 +5,7 @@ use crate::captures::{ethernet, ike};
 use crate::{file, PROGRAM, WORKED_EXAMPLE};
 use std::fs::File;
 use std::io::{BufRead, BufReader, Write};
+use std::path::Path;
 use std::process::{Child, Command, Stdio};
 use std::sync::mpsc::{self, Receiver};
 use std::thread;
@@ -61,12 +62,15 @@ fn a_named_pipe_is_answered_packet_by_packet() {
     let one = header.enhanced(0, &frame());
     let second = one.bytes.len();
     let capture = one.simple(&frame()).bytes;
-    let pipe = file("named-pipe", b"");
-    std::fs::remove_file(&pipe).unwrap();
+    let pipe = Path::new(env!("CARGO_TARGET_TMPDIR")).join("named-pipe");
+    // A test that failed left it there.
+    let _ = std::fs::remove_file(&pipe);
     assert!(Command::new("mkfifo").arg(&pipe).status().unwrap().success());
     let (mut child, lines) = start("named-pipe", pipe.to_str().unwrap());
     let parts = [&capture[..first], &capture[first..second], &capture[second..]];
-    line_by_line(File::create(&pipe).unwrap(), &parts, &lines);
+    // To open it for writing alone would wait for a reader.
+    let writer = File::options().read(true).write(true).open(&pipe).unwrap();
+    line_by_line(writer, &parts, &lines);
     assert_eq!(lines.recv(), Ok("# 2 packets".to_string()));
     assert!(child.wait().unwrap().success());
     std::fs::remove_file(&pipe).unwrap();

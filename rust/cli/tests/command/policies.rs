@@ -154,6 +154,22 @@ fn the_deciding_row_is_shown() {
     check(&specksonne(&fragment, WORKED_EXAMPLE.as_bytes()), 0, expected, "");
 }
 
+/// A port that a packet does not show is not port 0.
+#[test]
+fn an_opaque_port_is_no_number() {
+    let policy = b"policy\t1\n\
+        in\tprotect-1\tany\tany\t17\t0-65535\tany\n\
+        in\tprotect-2\tany\tany\t17\tany\t0-65535\n\
+        in\tprotect-3\tany\tany\t17\topaque\topaque\n";
+    let ports = [("0", "opaque", 1), ("opaque", "0", 2), ("opaque", "opaque", 3)];
+    for (local_port, remote_port, number) in ports {
+        let values = ["10.1.0.5", "10.0.0.9", "17", local_port, remote_port];
+        let output = specksonne(&[&["explain", "in", "-"][..], &values].concat(), policy);
+        let stdout = String::from_utf8_lossy(&output.stdout);
+        assert!(stdout.starts_with(&format!("action: protect-{number}\n")), "{stdout}");
+    }
+}
+
 #[test]
 fn the_deciding_row_is_shown_where_the_normal_form_is_too_large() {
     let policy = too_large();
