@@ -52,7 +52,7 @@ fn arguments() {
 fn no_argument_makes_it_panic() {
     let strange: [&[u8]; 5] = [b"\xff", b"", b"\xc3(", b"\n\x80", b"18446744073709551616"];
     for strange in strange.map(|bytes| OsString::from_vec(bytes.to_vec())) {
-        check_refused(&[strange.clone()], "");
+        check_refused(std::slice::from_ref(&strange), "");
         check_refused(&["5".into(), strange.clone()], "");
         check_refused(&["--threads".into(), strange.clone()], "");
         for start in ["--threads=", "--help=", "--\u{fffd}", "-\u{e4}="] {
