@@ -53,6 +53,14 @@ impl Abuse {
         abuse
     }
 
+    /// With the state of a gateway, at first.
+    pub fn of_a_gateway(seed: u64) -> Abuse {
+        let mut abuse = Abuse::new(seed);
+        abuse.disturbs = false;
+        abuse.fresh();
+        abuse
+    }
+
     /// Makes this many calls.
     pub fn run(&mut self, calls: u64) {
         for _ in 0..calls {
@@ -78,6 +86,12 @@ impl Abuse {
     /// The policy and the table, for callers that only read them.
     pub fn policy_and_table(&mut self) -> (&[u64; POLICY_WORDS], &[u64; TABLE_WORDS]) {
         (array(self.policy.lent()), array(self.table.lent()))
+    }
+
+    /// Whether the policy has rows for both directions.
+    pub fn has_rows(&self) -> bool {
+        let policy = self.policy.expected();
+        [OUT, IN].iter().all(|&direction| !model::rows(policy, direction).is_empty())
     }
 
     /// Holds all that is lent against what it must be.

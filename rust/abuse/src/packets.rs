@@ -38,6 +38,7 @@ impl Packets {
         if prng.one_in(3) && bytes.len() >= 20 {
             // The packet is for the gateway.
             bytes[16..20].copy_from_slice(&(policy[0] as u32).to_be_bytes());
+            name_a_pair(prng, table, &mut bytes);
         }
         self.carries.set_part(3, prng.one_in(2));
         self.carries.write(0, &[prng.number(), prng.number(), prng.number()]);
@@ -116,6 +117,20 @@ impl Packets {
         self.counts.answered(number, allowed);
         self.carries.accept_all();
         (number, *array(self.carries.lent()))
+    }
+}
+
+/// Makes the packet one of AH or ESP by a live pair, perhaps, where it has the bytes for that.
+fn name_a_pair(prng: &mut Prng, table: &Table, bytes: &mut [u8]) {
+    let live = model::live_names(table);
+    if live.is_empty() || prng.one_in(2) {
+        return;
+    }
+    let (protocol, spi) = *prng.pick(&live);
+    let start = if protocol == 50 { 20 } else { 24 };
+    if let Some(place) = bytes.get_mut(start..start + 4) {
+        place.copy_from_slice(&spi.to_be_bytes());
+        bytes[9] = protocol as u8;
     }
 }
 

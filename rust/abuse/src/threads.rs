@@ -17,13 +17,18 @@ pub fn run_apart(threads: usize, calls: u64, seed: u64) -> Counts {
 }
 
 /// Makes this many calls with packets, in threads that share a policy and a table and have a cache
-/// each. What is shared changes only between the rounds.
+/// each. In every second round these are a gateway's, in the others any words.
 pub fn run_sharing(threads: usize, calls: u64, seed: u64) -> Counts {
     const ROUNDS: u64 = 10;
-    let mut owner = Abuse::new(seed);
     let mut counts = Counts::default();
     for round in 0..ROUNDS {
-        owner.run(2_000);
+        let own_seed = seed ^ round << 32;
+        let gateway = round % 2 == 0;
+        let mut owner = if gateway { Abuse::of_a_gateway(own_seed) } else { Abuse::new(own_seed) };
+        owner.run(1_000);
+        while !owner.has_rows() {
+            owner.run(10);
+        }
         let (policy, table) = owner.policy_and_table();
         let calls = calls * (round + 1) / ROUNDS - counts.calls;
         counts += in_threads(threads, calls, seed + round, |calls, seed| {
