@@ -93,7 +93,7 @@ impl Generator {
         }
     }
 
-    /// Values that a packet can show, with ports of which no two bytes are alike, and none 0.
+    /// Values that a packet can mostly show, with ports of which no two bytes are alike, and none 0.
     fn seen_values(&mut self) -> [u64; FIELDS] {
         let mut bytes = [0; 4];
         for place in 0..bytes.len() {
@@ -107,7 +107,7 @@ impl Generator {
         [
             address(self.prng.number()),
             address(self.prng.number()),
-            *self.prng.pick(&[6, 17, 132]),
+            *self.prng.pick(&[6, 6, 17, 17, 132, 132, 33, 136]),
             local_port.into(),
             remote_port.into(),
         ]
