@@ -30,8 +30,7 @@ pub fn run_sharing(threads: usize, calls: u64, seed: u64) -> Counts {
             owner.run(10);
         }
         let (policy, table) = owner.policy_and_table();
-        let calls = calls * (round + 1) / ROUNDS - counts.calls;
-        counts += in_threads(threads, calls, seed + round, |calls, seed| {
+        counts += in_threads(threads, share(calls, ROUNDS, round), !own_seed, |calls, seed| {
             packets_alone(policy, table, calls, seed)
         });
         owner.check();
@@ -47,6 +46,11 @@ fn packets_alone(policy: &PolicyWords, table: &Table, calls: u64, seed: u64) -> 
     packets.counts
 }
 
+/// The calls of one of several parts, which together have all.
+fn share(calls: u64, parts: u64, part: u64) -> u64 {
+    calls / parts + u64::from(part < calls % parts)
+}
+
 /// Parts the calls among threads, each with a seed of its own.
 fn in_threads(
     threads: usize,
@@ -54,10 +58,9 @@ fn in_threads(
     seed: u64,
     run: impl Fn(u64, u64) -> Counts + Sync,
 ) -> Counts {
-    let mut seeds = Prng::new(seed);
-    let shares =
-        (0..threads as u64).map(|n| calls * (n + 1) / threads as u64 - calls * n / threads as u64);
-    let shares: Vec<(u64, u64)> = shares.map(|calls| (calls, seeds.number())).collect();
+    let (threads, mut seeds) = (threads as u64, Prng::new(seed));
+    let shares = (0..threads).map(|part| (share(calls, threads, part), seeds.number()));
+    let shares: Vec<(u64, u64)> = shares.collect();
     let mut counts = Counts::default();
     thread::scope(|scope| {
         let run = &run;
@@ -68,4 +71,17 @@ fn in_threads(
         }
     });
     counts
+}
+
+#[cfg(test)]
+mod tests {
+    use super::*;
+
+    #[test]
+    fn the_shares_are_all_calls() {
+        for (calls, parts) in [(0, 3), (2, 3), (10, 3), (u64::MAX, 10), (u64::MAX, 64)] {
+            let shares = (0..parts).map(|part| share(calls, parts, part));
+            assert_eq!(shares.sum::<u64>(), calls, "{parts} parts");
+        }
+    }
 }

@@ -32,6 +32,7 @@ fn arguments() {
     check_done(&["--version"], concat!("abuse ", env!("CARGO_PKG_VERSION"), "\n"));
     check_done(&["100"], "seed 1, 2 threads: 100 calls ");
     check_done(&["--threads=3", "100", "7"], "seed 7, 3 threads: 100 calls ");
+    check_done(&["100", "18446744073709551615"], "seed 18446744073709551615, 2 threads: 100 ");
     check_done(&["0", "--threads", "1"], "seed 1, 1 threads: 0 calls; ");
     let refused: [(&[&str], &str); 7] = [
         (&["--nonsense"], "no option --nonsense;"),
