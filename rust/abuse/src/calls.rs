@@ -1,12 +1,11 @@
 //! Random calls of every exported function, each held against what it may change.
 
+use crate::array;
 use crate::counts::Counts;
-use crate::fence::Fenced;
 use crate::inputs::{packet, policy_file, protocol, spi, word, MOST_BYTES};
-use crate::lent::Lent;
+use crate::lent::{Given, Lent};
 use crate::model::{self, IN, NEXT, OUT, PLACE_WORDS, USED};
 use crate::packets::Packets;
-use crate::{array, filled};
 use specksonne::ffi::{self, POLICY_WORDS, ROW_WORDS, TABLE_WORDS};
 use specksonne::MOST_NORMAL_FORM_BYTES;
 use testkit::Prng;
@@ -27,8 +26,10 @@ pub struct Abuse {
     words: Lent<u64>,
     carries: Lent<u64>,
     out: Lent<u8>,
-    bytes: Fenced<u8>,
-    second: Fenced<u8>,
+    /// A policy file, or a packet.
+    given: Given,
+    /// The second file of two.
+    second: Given,
     counts: Counts,
 }
 
@@ -44,11 +45,19 @@ impl Abuse {
             words: Lent::new(20, 0),
             carries: Lent::new(2, 0),
             out: Lent::new(MOST_OUT, 0),
-            bytes: Fenced::new(MOST_BYTES),
-            second: Fenced::new(MOST_BYTES),
+            given: Given::new(MOST_BYTES),
+            second: Given::new(MOST_BYTES),
             counts: Counts::default(),
         };
         abuse.refill();
+        abuse
+    }
+
+    /// With the state of a gateway, at first.
+    pub fn of_a_gateway(seed: u64) -> Abuse {
+        let mut abuse = Abuse::new(seed);
+        abuse.disturbs = false;
+        abuse.fresh();
         abuse
     }
 
@@ -79,6 +88,12 @@ impl Abuse {
         (array(self.policy.lent()), array(self.table.lent()))
     }
 
+    /// Whether the policy has rows for both directions.
+    pub fn has_rows(&self) -> bool {
+        let policy = self.policy.expected();
+        [OUT, IN].iter().all(|&direction| !model::rows(policy, direction).is_empty())
+    }
+
     /// Holds all that is lent against what it must be.
     #[track_caller]
     pub fn check(&mut self) {
@@ -89,6 +104,8 @@ impl Abuse {
         self.words.check("list of selectors or ranges");
         self.carries.check("room for what an answer carries");
         self.out.check("room for a file");
+        self.given.check("file or packet");
+        self.second.check("second file");
     }
 
     /// The words of a gateway's state.
@@ -116,7 +133,7 @@ impl Abuse {
     fn disturb(&mut self) {
         let mut prng = Prng::new(self.prng.number());
         let address = prng.number() as u32;
-        let mut counts = [(0, 0), (0, 1), (0, 2), (2, USED), (2, NEXT), (3, USED), (3, NEXT)];
+        let counts = [(0, 0), (0, 1), (0, 2), (2, USED), (2, NEXT), (3, USED), (3, NEXT)];
         let mut state = self.state();
         for words in &mut state {
             for _ in 0..prng.below(4) {
@@ -124,9 +141,10 @@ impl Abuse {
                 words.write(place, &[word(&mut prng, 3)]);
             }
         }
-        let (list, place) = *prng.pick(&mut counts);
+        let (list, place) = *prng.pick(&counts);
         if prng.one_in(4) {
-            state[list].write(place, &[word(&mut prng, 3)]);
+            let (any, few) = (word(&mut prng, 3), prng.below(34));
+            state[list].write(place, &[*prng.pick(&[any, few])]);
         } else if prng.one_in(8) {
             state[0].write(0, &[address.into()]);
         }
@@ -193,24 +211,23 @@ impl Abuse {
     }
 
     fn policy(&mut self) {
-        let file = policy_file(&mut self.prng);
-        let bytes = filled(&mut self.bytes, &file, self.prng.one_in(2));
+        self.give_file();
         let Packets { outbound, inbound, .. } = &mut self.packets;
         let (outbound, inbound) = (array(outbound.lent()), array(inbound.lent()));
         let (policy, carried) = (array(self.policy.lent()), &mut self.carries.lent()[0]);
-        let number = ffi::policy(policy, outbound, inbound, bytes, carried);
-        assert!(bytes == file, "the file is not what it was");
+        let number = ffi::policy(policy, outbound, inbound, self.given.lent(), carried);
         if number == 5 {
             self.packets.outbound.expect().fill(0);
             self.packets.inbound.expect().fill(0);
-            self.accept_rows(&file);
+            self.accept_rows();
         }
         self.answered(number, &[5, 20, 21, 22, 23, 24], &[20, 22]);
     }
 
     /// Takes the rows that the policy has now, which must be the normal forms of the file, for what
     /// they must be.
-    fn accept_rows(&mut self, file: &[u8]) {
+    fn accept_rows(&mut self) {
+        let file = self.given.bytes();
         for direction in [OUT, IN] {
             let [mut printed, mut form] = [(); 2].map(|()| vec![0; MOST_NORMAL_FORM_BYTES]);
             let (mut bytes, mut form_bytes) = (0, 0);
@@ -224,12 +241,10 @@ impl Abuse {
 
     fn normalise(&mut self) {
         let direction = self.direction();
-        let file = policy_file(&mut self.prng);
-        let bytes = filled(&mut self.bytes, &file, self.prng.one_in(2));
+        self.give_file();
         self.out.set_part(self.prng.below(2000) as usize, self.prng.one_in(2));
         let carried = &mut self.carries.lent()[0];
-        let number = ffi::normalise(bytes, direction, self.out.lent(), carried);
-        assert!(bytes == file, "the file is not what it was");
+        let number = ffi::normalise(self.given.lent(), direction, self.out.lent(), carried);
         let written = self.answered(number, &[5, 20, 21, 22, 23, 24, 31], &[5, 20, 22]);
         if number == 5 {
             self.out.accept(0..written as usize);
@@ -238,26 +253,26 @@ impl Abuse {
 
     fn same(&mut self) {
         let direction = self.direction();
-        let (first, second) = (policy_file(&mut self.prng), policy_file(&mut self.prng));
-        let second = if self.prng.one_in(3) { first.clone() } else { second };
-        let bytes = filled(&mut self.bytes, &first, self.prng.one_in(2));
-        let other = filled(&mut self.second, &second, self.prng.one_in(2));
-        let number = ffi::same(bytes, other, direction, array(self.carries.lent()));
-        assert!(bytes == first && other == second, "a file is not what it was");
+        self.give_file();
+        let another = policy_file(&mut self.prng);
+        let second = if self.prng.one_in(3) { self.given.bytes().to_vec() } else { another };
+        self.second.set(second, self.prng.one_in(2));
+        let (first, second) = (self.given.lent(), self.second.lent());
+        let number = ffi::same(first, second, direction, array(self.carries.lent()));
         let which = self.carries.lent()[1];
         self.carries.accept(1..2);
         let carried = self.answered(number, &[5, 20, 21, 23, 24], &[5, 20]);
         assert!(if number == 5 { which == 0 && carried < 2 } else { matches!(which, 1 | 2) });
-        assert!(first != second || number != 5 || carried == 1, "a file is not the same as itself");
+        let itself = number == 5 && self.given.bytes() == self.second.bytes();
+        assert!(!itself || carried == 1, "a file is not the same as itself");
     }
 
     fn parse(&mut self) {
-        let file = policy_file(&mut self.prng);
-        let bytes = filled(&mut self.bytes, &file, self.prng.one_in(2));
+        self.give_file();
         let words = self.prng.below((MOST_ROWS * ROW_WORDS) as u64 + 1) as usize;
         self.rows.set_part(words, self.prng.one_in(2));
-        let number = ffi::parse(bytes, self.rows.lent(), &mut self.carries.lent()[0]);
-        assert!(bytes == file, "the file is not what it was");
+        let carried = &mut self.carries.lent()[0];
+        let number = ffi::parse(self.given.lent(), self.rows.lent(), carried);
         let rows = self.answered(number, &[5, 20, 21, 23, 24, 31], &[5, 20]);
         if number == 5 {
             self.rows.accept(0..rows as usize * ROW_WORDS);
@@ -301,18 +316,16 @@ impl Abuse {
 
     fn read(&mut self) {
         let direction = self.direction();
-        let packet = packet(&mut self.prng);
-        let bytes = filled(&mut self.bytes, &packet, self.prng.one_in(2));
+        self.given.set(packet(&mut self.prng), self.prng.one_in(2));
         self.words.set_part(10, self.prng.one_in(2));
-        let readable = ffi::read(direction, bytes, array(self.words.lent()));
-        let selectors = model::selectors(&packet, direction);
+        let readable = ffi::read(direction, self.given.lent(), array(self.words.lent()));
+        let selectors = model::selectors(self.given.bytes(), direction);
         assert_eq!(readable, selectors.is_some());
         self.words.expect().copy_from_slice(&selectors.unwrap_or_default());
-        assert_eq!(ffi::trigger(bytes, array(self.carries.lent())), readable);
-        let part = reference::Packet::read(&packet)
-            .map(|packet| [packet.triggering_start(), packet.triggering_header().len()]);
-        self.carries.expect().copy_from_slice(&part.unwrap_or_default().map(|word| word as u64));
-        assert!(bytes == packet, "the packet is not what it was");
+        let part = array(self.carries.lent());
+        assert_eq!(ffi::trigger(self.given.lent(), part), readable);
+        let expected = model::triggering_part(self.given.bytes()).unwrap_or_default();
+        self.carries.expect().copy_from_slice(&expected);
         self.counts.answered(if readable { 5 } else { 10 }, &[5, 10]);
     }
 
@@ -357,6 +370,11 @@ impl Abuse {
             assert_eq!(next_free, Some(0), "the place is not free");
         }
         self.counts.answered(answer, &[5, 29]);
+    }
+
+    /// Gives another policy file.
+    fn give_file(&mut self) {
+        self.given.set(policy_file(&mut self.prng), self.prng.one_in(2));
     }
 
     fn direction(&mut self) -> u64 {

@@ -5,12 +5,16 @@ use testkit::{icmp_error, ports, Ipv4, Prng};
 /// The most bytes of a packet or a file: more than any total length can name.
 pub const MOST_BYTES: usize = 66_000;
 
+/// Words that have a meaning somewhere.
+const WORDS: [u64; 16] =
+    [0, 1, 2, 6, 9, 17, 31, 32, 50, 51, 255, 256, 257, 65_535, 65_536, u64::MAX];
+
 /// A word: any, small, one with a meaning somewhere, or one of these by turns.
 pub fn word(prng: &mut Prng, kind: u64) -> u64 {
     match kind {
         0 => prng.number(),
         1 => prng.below(4),
-        2 => *prng.pick(&[0, 1, 2, 6, 9, 17, 50, 51, 255, 256, 257, 65_535, 65_536, u64::MAX]),
+        2 => *prng.pick(&WORDS),
         _ => {
             let kind = prng.below(3);
             word(prng, kind)
@@ -117,11 +121,11 @@ pub fn policy_file(prng: &mut Prng) -> Vec<u8> {
         let fields = [
             pick(&["out", "in", "both"]),
             pick(&["bypass", "discard", "protect-7", "protect-255"]),
-            pick(&["any", "10.0.0.0/255.0.0.0", "1.2.3.4", "1.1.1.1-9.9.9.9"]),
-            pick(&["any", "any", "0.0.0.0-0.0.0.9"]),
-            pick(&["any", "6", "17-51"]),
-            pick(&["any", "opaque", "23-opaque", "0-65535"]),
-            pick(&["any", "22", "500-600", "opaque"]),
+            pick(&["any", "any", "10.0.0.0/255.0.0.0", "0.0.0.1", "0.0.0.2-9.9.9.9"]),
+            pick(&["any", "any", "0.0.0.0-0.0.0.9", "0.0.0.3"]),
+            pick(&["any", "any", "6", "17-51"]),
+            pick(&["any", "any", "opaque", "2-opaque", "0-65535"]),
+            pick(&["any", "any", "1", "500-600", "opaque"]),
         ];
         text.push_str(&fields.join("\t"));
         text.push('\n');

@@ -81,6 +81,43 @@ impl<T: Plain + PartialEq> Lent<T> {
     }
 }
 
+/// Bytes beside a guard page that a call only reads, with a copy of them.
+pub struct Given {
+    fence: Fenced<u8>,
+    bytes: Vec<u8>,
+    at_the_end: bool,
+}
+
+impl Given {
+    pub fn new(most: usize) -> Given {
+        Given { fence: Fenced::new(most), bytes: Vec::new(), at_the_end: false }
+    }
+
+    /// Gives other bytes.
+    pub fn set(&mut self, bytes: Vec<u8>, at_the_end: bool) {
+        self.bytes = bytes;
+        self.at_the_end = at_the_end;
+        self.fence.lend(self.bytes.len(), at_the_end).copy_from_slice(&self.bytes);
+    }
+
+    /// What a call is lent.
+    pub fn lent(&mut self) -> &[u8] {
+        self.fence.lend(self.bytes.len(), self.at_the_end)
+    }
+
+    /// The bytes as they were given.
+    pub fn bytes(&self) -> &[u8] {
+        &self.bytes
+    }
+
+    /// Holds every byte against what it was.
+    #[track_caller]
+    pub fn check(&mut self, name: &str) {
+        let lent = self.fence.lend(self.bytes.len(), self.at_the_end);
+        assert!(lent == self.bytes, "the {name} is not what it was");
+    }
+}
+
 #[cfg(test)]
 mod tests {
     use super::*;

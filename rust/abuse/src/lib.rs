@@ -14,16 +14,7 @@ pub use calls::Abuse;
 pub use counts::Counts;
 pub use threads::{run_apart, run_sharing};
 
-use fence::Fenced;
-
 /// The slice as an array of that length.
 fn array<const N: usize>(words: &mut [u64]) -> &mut [u64; N] {
     words.try_into().expect("as many words as were lent")
-}
-
-/// Lends room for these bytes, and writes them into it.
-fn filled<'a>(room: &'a mut Fenced<u8>, bytes: &[u8], at_the_end: bool) -> &'a [u8] {
-    let lent = room.lend(bytes.len(), at_the_end);
-    lent.copy_from_slice(bytes);
-    lent
 }

@@ -108,3 +108,10 @@ pub fn selectors(packet: &[u8], direction: u64) -> Option<SelectorWords> {
     }
     Some(words)
 }
+
+/// Where the triggering header of an ICMP error would begin, and how long it is; none where the
+/// packet is not readable.
+pub fn triggering_part(packet: &[u8]) -> Option<[u64; 2]> {
+    let packet = Packet::read(packet)?;
+    Some([packet.triggering_start() as u64, packet.triggering_header().len() as u64])
+}

@@ -1,11 +1,10 @@
 //! The calls that take packets, held against document 01's rules.
 
+use crate::array;
 use crate::counts::Counts;
-use crate::fence::Fenced;
 use crate::inputs::{packet, protocol, spi, MOST_BYTES};
-use crate::lent::Lent;
+use crate::lent::{Given, Lent};
 use crate::model::{self, IN, OUT};
-use crate::{array, filled};
 use specksonne::ffi::{self, PolicyWords, SelectorWords, Table, CACHE_WORDS};
 use testkit::Prng;
 
@@ -17,7 +16,7 @@ pub struct Packets {
     pub outbound: Lent<u64>,
     pub inbound: Lent<u64>,
     carries: Lent<u64>,
-    packet: Fenced<u8>,
+    packet: Given,
     pub counts: Counts,
 }
 
@@ -27,7 +26,7 @@ impl Packets {
             outbound: Lent::new(CACHE_WORDS, 0),
             inbound: Lent::new(CACHE_WORDS, 0),
             carries: Lent::new(3, 0),
-            packet: Fenced::new(MOST_BYTES),
+            packet: Given::new(MOST_BYTES),
             counts: Counts::default(),
         }
     }
@@ -39,13 +38,15 @@ impl Packets {
         if prng.one_in(3) && bytes.len() >= 20 {
             // The packet is for the gateway.
             bytes[16..20].copy_from_slice(&(policy[0] as u32).to_be_bytes());
+            name_a_pair(prng, table, &mut bytes);
         }
         self.carries.set_part(3, prng.one_in(2));
         self.carries.write(0, &[prng.number(), prng.number(), prng.number()]);
+        self.packet.set(bytes, prng.one_in(2));
         match prng.below(3) {
-            0 => self.outbound(prng, policy, table, &bytes),
-            1 => self.inbound(prng, policy, table, &bytes),
-            _ => self.from_sa(prng, table, &bytes),
+            0 => self.outbound(policy, table),
+            1 => self.inbound(policy, table),
+            _ => self.packet_from_sa(prng, table),
         }
         self.check();
     }
@@ -56,14 +57,13 @@ impl Packets {
         self.outbound.check("outbound cache");
         self.inbound.check("inbound cache");
         self.carries.check("room for what an answer carries");
+        self.packet.check("packet");
     }
 
-    fn outbound(&mut self, prng: &mut Prng, policy: &PolicyWords, table: &Table, bytes: &[u8]) {
-        let packet = filled(&mut self.packet, bytes, prng.one_in(2));
+    fn outbound(&mut self, policy: &PolicyWords, table: &Table) {
         let (cache, carried) = (array(self.outbound.lent()), array(self.carries.lent()));
-        let number = ffi::outbound(policy, table, cache, packet, carried);
-        assert!(packet == bytes, "the packet is not what it was");
-        let expected = match model::selectors(bytes, OUT) {
+        let number = ffi::outbound(policy, table, cache, self.packet.lent(), carried);
+        let expected = match model::selectors(self.packet.bytes(), OUT) {
             Some(selectors) => {
                 let rows = model::rows(policy, OUT);
                 let action = model::look_up(self.outbound.expect(), rows, OUT, &selectors);
@@ -74,12 +74,10 @@ impl Packets {
         assert_eq!(self.answered(number, &[0, 2, 3, 10, 11]), expected);
     }
 
-    fn inbound(&mut self, prng: &mut Prng, policy: &PolicyWords, table: &Table, bytes: &[u8]) {
-        let packet = filled(&mut self.packet, bytes, prng.one_in(2));
+    fn inbound(&mut self, policy: &PolicyWords, table: &Table) {
         let (cache, carried) = (array(self.inbound.lent()), array(self.carries.lent()));
-        let number = ffi::inbound(policy, table, cache, packet, carried);
-        assert!(packet == bytes, "the packet is not what it was");
-        let Some(selectors) = model::selectors(bytes, IN) else {
+        let number = ffi::inbound(policy, table, cache, self.packet.lent(), carried);
+        let Some(selectors) = model::selectors(self.packet.bytes(), IN) else {
             assert_eq!(self.answered(number, &[10]), (10, [0; 3]));
             return;
         };
@@ -97,20 +95,20 @@ impl Packets {
         assert_eq!(self.answered(number, &[0, 11, 12]), (expected, [0; 3]));
     }
 
-    fn from_sa(&mut self, prng: &mut Prng, table: &Table, bytes: &[u8]) {
+    fn packet_from_sa(&mut self, prng: &mut Prng, table: &Table) {
         let live = model::live_names(table);
         let (protocol, spi) = match live.as_slice() {
             [_, ..] if prng.one_in(2) => *prng.pick(&live),
             _ => (protocol(prng), spi(prng)),
         };
-        let packet = filled(&mut self.packet, bytes, prng.one_in(2));
-        let number = ffi::from_sa(table, protocol, spi, packet, array(self.carries.lent()));
-        assert!(packet == bytes, "the packet is not what it was");
+        let (packet, carried) = (self.packet.lent(), array(self.carries.lent()));
+        let number = ffi::from_sa(table, protocol, spi, packet, carried);
         let (number, carried) = self.answered(number, &[1, 10, 13, 14, 17, 18]);
         assert_eq!(carried, [0; 3]);
         let is_live = model::live_place(table, protocol, spi).is_some();
         assert_eq!(number == 13, !is_live);
-        assert_eq!(number == 10, is_live && model::selectors(bytes, IN).is_none());
+        let is_readable = model::selectors(self.packet.bytes(), IN).is_some();
+        assert_eq!(number == 10, is_live && !is_readable);
     }
 
     /// Counts an answer, which must be one of those allowed, and says what it carries.
@@ -119,6 +117,20 @@ impl Packets {
         self.counts.answered(number, allowed);
         self.carries.accept_all();
         (number, *array(self.carries.lent()))
+    }
+}
+
+/// Makes the packet one of AH or ESP by a live pair, perhaps, where it has the bytes for that.
+fn name_a_pair(prng: &mut Prng, table: &Table, bytes: &mut [u8]) {
+    let live = model::live_names(table);
+    if live.is_empty() || prng.one_in(2) {
+        return;
+    }
+    let (protocol, spi) = *prng.pick(&live);
+    let start = if protocol == 50 { 20 } else { 24 };
+    if let Some(place) = bytes.get_mut(start..start + 4) {
+        place.copy_from_slice(&spi.to_be_bytes());
+        bytes[9] = protocol as u8;
     }
 }
 

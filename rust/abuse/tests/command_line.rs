@@ -32,6 +32,7 @@ fn arguments() {
     check_done(&["--version"], concat!("abuse ", env!("CARGO_PKG_VERSION"), "\n"));
     check_done(&["100"], "seed 1, 2 threads: 100 calls ");
     check_done(&["--threads=3", "100", "7"], "seed 7, 3 threads: 100 calls ");
+    check_done(&["100", "18446744073709551615"], "seed 18446744073709551615, 2 threads: 100 ");
     check_done(&["0", "--threads", "1"], "seed 1, 1 threads: 0 calls; ");
     let refused: [(&[&str], &str); 7] = [
         (&["--nonsense"], "no option --nonsense;"),
@@ -52,7 +53,7 @@ fn arguments() {
 fn no_argument_makes_it_panic() {
     let strange: [&[u8]; 5] = [b"\xff", b"", b"\xc3(", b"\n\x80", b"18446744073709551616"];
     for strange in strange.map(|bytes| OsString::from_vec(bytes.to_vec())) {
-        check_refused(&[strange.clone()], "");
+        check_refused(std::slice::from_ref(&strange), "");
         check_refused(&["5".into(), strange.clone()], "");
         check_refused(&["--threads".into(), strange.clone()], "");
         for start in ["--threads=", "--help=", "--\u{fffd}", "-\u{e4}="] {

@@ -151,8 +151,9 @@ fn agree<const N: usize>(
     }
     match parter.or(one.first().copied().filter(holds_a_part)) {
         Some(entry) => {
+            // What the entry holds comes first: a difference is most likely there.
             let parts = split(field, part, &entry.ranges);
-            parts.iter().all(|part| agree(field, part, &one, &other))
+            parts.iter().rev().all(|part| agree(field, part, &one, &other))
         }
         None => false,
     }
@@ -243,12 +244,17 @@ fn holds_all<const N: usize>(field: usize, part: &[Range; N], ranges: &[Range; N
     fields.all(|(part, range)| range.low <= part.low && part.high <= range.high)
 }
 
-/// Splits a part that the ranges meet into what they hold of it and the rest, looking at the
-/// fields from `field` on.
+/// Splits a part that the ranges meet into what they hold of it, which comes last, and the rest,
+/// looking at the fields from `field` on. Where they hold the smallest share of the part, it is cut
+/// first: the rest is cut no further, and other entries are in fewer parts.
 fn split<const N: usize>(field: usize, part: &[Range; N], ranges: &[Range; N]) -> Vec<[Range; N]> {
+    let size = |range: Range| (range.high - range.low) as f64 + 1.0;
+    let share = |field: &usize| size(ranges[*field]) / size(part[*field]);
+    let mut fields: Vec<usize> = (field..N).collect();
+    fields.sort_by(|one, other| share(one).total_cmp(&share(other)));
     let mut parts = Vec::new();
     let mut held = *part;
-    for field in field..N {
+    for field in fields {
         for piece in pieces(held[field], [ranges[field]]) {
             if ranges[field].holds(piece.low) {
                 held[field] = piece;

@@ -123,7 +123,7 @@ fn no_argument_makes_it_panic() {
     let strange: [&[u8]; 4] = [b"\xff", b"\xc3(", b"=\n\x80", b"18446744073709551616"];
     for strange in strange {
         let alone = OsString::from_vec(strange.to_vec());
-        check_refused(&[alone.clone()]);
+        check_refused(std::slice::from_ref(&alone));
         check_refused(&["--compare".into(), alone.clone()]);
         for option in options {
             check_refused(&[option.into(), alone.clone()]);

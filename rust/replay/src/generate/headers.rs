@@ -15,7 +15,10 @@ impl Generator {
         match self.prng.below(10) {
             0 => self.long_packets(),
             1..=3 => self.every_truncation(),
-            4 | 5 => self.every_address_bit(),
+            4 | 5 => {
+                self.every_address_bit();
+                self.every_short_upper_part();
+            }
             _ => self.every_flag_and_offset_bit(),
         }
     }
@@ -68,6 +71,7 @@ impl Generator {
     /// AH or ESP for the gateway, but for each one bit of its address.
     fn every_address_bit(&mut self) {
         let mut packet = self.gateway_packet();
+        packet.upper.resize(20, 0);
         for bit in 0..32 {
             packet.destination = self.gateway ^ 1 << bit;
             self.line(format!("in {}", to_hex(&packet.bytes())));
@@ -76,7 +80,20 @@ impl Generator {
         self.line(format!("in {}", to_hex(&packet.bytes())));
     }
 
-    /// Values that a packet can show, with ports of which no two bytes are alike, and none 0.
+    /// AH and ESP for the gateway with each count of upper bytes up to where the SPI is surely seen.
+    fn every_short_upper_part(&mut self) {
+        let packet = self.gateway_packet();
+        for protocol in [50, 51] {
+            for length in 0..=13 {
+                let mut short = packet.clone();
+                short.protocol = protocol;
+                short.upper.truncate(length);
+                self.line(format!("in {}", to_hex(&short.bytes())));
+            }
+        }
+    }
+
+    /// Values that a packet can mostly show, with ports of which no two bytes are alike, and none 0.
     fn seen_values(&mut self) -> [u64; FIELDS] {
         let mut bytes = [0; 4];
         for place in 0..bytes.len() {
@@ -90,7 +107,7 @@ impl Generator {
         [
             address(self.prng.number()),
             address(self.prng.number()),
-            *self.prng.pick(&[6, 17, 132]),
+            *self.prng.pick(&[6, 6, 17, 17, 132, 132, 33, 136]),
             local_port.into(),
             remote_port.into(),
         ]

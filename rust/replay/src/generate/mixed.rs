@@ -30,9 +30,10 @@ impl Generator {
     /// Meets many rows of the policy in one direction, so that the cache goes round.
     fn sweep_the_policy(&mut self) {
         let direction = self.direction();
-        let rows = self.policy.len() as u64;
-        for _ in 0..rows.min(100) {
-            self.hit_line(direction);
+        let rows = self.policy.len();
+        let start = self.prng.below(rows as u64 + 1) as usize;
+        for n in 0..rows.min(100) {
+            self.hit_line(direction, (start + n) % rows);
         }
         self.line(format!("show cache {direction}"));
     }

@@ -50,12 +50,9 @@ impl Generator {
         self.line(line);
     }
 
-    /// A sound packet that a row of the policy holds, if it can be shown and no earlier row does.
-    pub fn hit_line(&mut self, direction: &str) {
-        if self.policy.is_empty() {
-            return;
-        }
-        let ranges = self.prng.pick(&self.policy).ranges;
+    /// A sound packet that this row of the policy holds, if it can be shown and no earlier row does.
+    pub fn hit_line(&mut self, direction: &str, row: usize) {
+        let ranges = self.policy[row].ranges;
         let mut values = ranges.map(|(low, _)| low);
         let (low, high) = ranges[2];
         if low <= 6 && 6 <= high {

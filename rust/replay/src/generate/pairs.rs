@@ -108,12 +108,12 @@ impl Generator {
         for (protocol, inbound_spi) in names {
             let outbound_spi = some_spi(&mut self.prng);
             self.add_pair(PairSpec { protocol, inbound_spi, outbound_spi, number: 7, ranges });
-            self.hit_line("out");
+            self.hit_line("out", 0);
         }
         shuffle(&mut self.prng, &mut names);
         for (protocol, inbound_spi) in names {
             self.remove_named(protocol, inbound_spi);
-            self.hit_line("out");
+            self.hit_line("out", 0);
             let packet = to_hex(&self.gateway_packet().bytes());
             self.line(format!("in {packet}"));
             self.line(format!("from {protocol} {inbound_spi} {packet}"));

@@ -12,7 +12,7 @@ impl Generator {
     pub fn same_lines(&mut self, rows: &[RowSpec]) {
         for _ in 0..8 {
             // The library takes seconds for hundreds of rows without common ends.
-            let most = *self.prng.pick(&[1, 2, 5, 100]);
+            let most = *self.prng.pick(&[1, 2, 5, 60]);
             let rows = &rows[..rows.len().min(most)];
             let mut other = varied(&mut self.prng, rows);
             if self.prng.one_in(4) {
