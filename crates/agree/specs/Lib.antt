@@ -1,0 +1,5 @@
+pub mod CuttingLaws
+pub mod EntriesLaws
+pub mod Sides
+pub mod SidesLaws
+pub mod TakesLaws

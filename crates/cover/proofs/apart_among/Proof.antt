@@ -1,0 +1,17 @@
+-- `cover::apart_among` meets its contract. Of a row that is not there nothing is said. Assumes nothing.
+use mathlib.Core.Bool.{false≢true}
+use borrow.Author.Needs.{needs}
+use Rattle.cover.proofs.apart_among.Statement.{statement}
+use Rattle.cover.proofs.apart_among.Tie as tie
+
+returns : tie.Need-returns
+returns c = λ e. absurd (false≢true e)
+
+apart-in-requires : tie.Need-apart-in-requires
+apart-in-requires c κs = search needs
+
+returns-2 : tie.Need-returns-2
+returns-2 c = search needs
+
+pub apart-among-spec : {M : Type 1} → statement M
+apart-among-spec = tie.close (tie.spec returns apart-in-requires returns-2)
