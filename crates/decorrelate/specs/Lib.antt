@@ -3,4 +3,3 @@ pub mod FormLaws
 pub mod RoomLaws
 pub mod Agree
 pub mod AgreeLaws
-pub mod PruneLaws

@@ -5,11 +5,12 @@ use mathlib.Core.List.{List, [], _∷_}
 use lib.ListN.{getD}
 use Rattle.selectors.specs.Range.{Range}
 use Rattle.selectors.specs.Value.{number}
-use Rattle.selectors.specs.Words.{valueAt, rangeAt}
+use Rattle.selectors.specs.Words.{valueAt}
 use Rattle.selectors.specs.declared.Direction.{Direction}
 use Rattle.normal_form.specs.Search.{Row, row, holds}
 use Rattle.policy.specs.Policy.{appliesTo}
 use Rattle.policy.specs.Words.{directionOf, rowWords}
+use Rattle.agree.specs.Sides.{rangeOf}
 use Rattle.layout.specs.Parting.{Parting, parting}
 
 -- The value of the field f in the words of a point, which has two for each field; and n values from the field f on.
@@ -29,10 +30,7 @@ sizesFrom hs f (suc n) = (valueOf hs f + 1) ∷ sizesFrom hs (f + 1) n
 abbrev pub wordOf : ℕ → ℕ → ℕ
 wordOf i f = i * rowWords + 2 + 4 * f
 
--- The range of the field f in the row i, and n ranges from there on.
-abbrev pub rangeOf : List ℕ → ℕ → ℕ → Range
-rangeOf ws i f = rangeAt ws (wordOf i f)
-
+-- n ranges of the row i from the field f on.
 unfoldable pub rangesFrom : List ℕ → ℕ → ℕ → ℕ → List Range
 rangesFrom ws i f zero = []
 rangesFrom ws i f (suc n) = rangeOf ws i f ∷ rangesFrom ws i (f + 1) n

@@ -20,8 +20,9 @@ use Rattle.policy.specs.Words.{actionWord, rowAt, policyRows, rowWords}
 use Rattle.policy.specs.WordsLaws.{action-word, actionFound, search-match}
 use Rattle.policy.specs.declared.Found.{Found}
 use Rattle.policy.specs.declared.Found.the-variants.{Row as FoundRow, Nothing}
+use Rattle.agree.specs.Sides.{rangeOf}
 use Rattle.layout.specs.Parting.{parting}
-use Rattle.layout.specs.Decode.{valueOf, valuesFrom, rangeOf, rangesFrom, wordOf, active, partRow, partRows}
+use Rattle.layout.specs.Decode.{valueOf, valuesFrom, rangesFrom, wordOf, active, partRow, partRows}
 
 -- The fields from f to n, without n: the first of them and the rest, or none.
 ranges-next : (ws : List ℕ) (i f n : ℕ) → f < n → rangesFrom ws i f (n - f) ≡ rangeOf ws i f ∷ rangesFrom ws i (f + 1) (n - (f + 1))

@@ -18,10 +18,11 @@ use Rattle.normal_form.specs.RunsLaws.{runs-ext}
 use Rattle.normal_form.specs.Laws.{leaf-cases, normal-form-ext}
 use Rattle.policy.specs.Policy.{PolicyRow, appliesTo, matches, orderedSearch}
 use Rattle.policy.specs.Words.{actionWord, directionOf, rowAt, rowsFrom, policyRows, rowWords}
+use Rattle.agree.specs.Sides.{rangeOf}
 use Rattle.layout.specs.Parting.{parting, parting-≟, agreed, parted, partingAt}
-use Rattle.layout.specs.Decode.{valueOf, valuesFrom, sizesFrom, rangeOf, rangesFrom, active, partRow, partRows}
+use Rattle.layout.specs.Decode.{valueOf, valuesFrom, sizesFrom, rangesFrom, active, partRow, partRows}
 use Rattle.layout.specs.DecodeLaws.{value-moved, active-matches}
-use Rattle.layout.specs.Steps.{formBehind, formAt, LaidOut, AlikeTo, AlikeAmong, Outside}
+use Rattle.layout.specs.Steps.{formBehind, formAt, LaidOut, AlikeTo, AlikeAmong, SearchAlike, Outside}
 use Rattle.layout.specs.StepsLaws.{put-value, laid-rows, laid-over}
 use Rattle.layout.specs.declared.Laid.the-variants.{Rows, Over}
 use Rattle.layout.specs.declared.Task.{Task}
@@ -149,22 +150,21 @@ module _ (d : Direction) (ws : List ℕ) (f : ℕ) (before : List ℕ) (e : leng
       by true t c = rw (c refl)
       by false t c = rw t
 
--- Values of an interval that no active row of either policy parts have the same layout behind them.
-pub form-alike : (d : Direction) (first second : List ℕ) (f : ℕ) (before : List ℕ) → length before ≡ f → f < 5 → (Ss : List ℕ) (from last : ℕ)
-    → AlikeAmong d first (length first / rowWords) f before from last
-    → AlikeAmong d second (length second / rowWords) f before from last
+-- So the search treats values of an interval that no active row parts alike.
+pub search-among : (d : Direction) (ws : List ℕ) (f : ℕ) (before : List ℕ) → length before ≡ f → f < 5 → (from last : ℕ)
+    → AlikeAmong d ws (length ws / rowWords) f before from last → SearchAlike d ws before from last
+unfolding AlikeAmong AlikeTo SearchAlike
+search-among d ws f before e h from last a u p q us =
+    ap actionWord (search-alike d ws f before e h u from us 0 (length ws / rowWords) (λ j k t. a j (omega arith) t u p q))
+
+-- Values of an interval that the searches of both policies treat alike have the same layout behind them.
+pub form-alike : (d : Direction) (first second before Ss : List ℕ) (from last : ℕ) → SearchAlike d first before from last → SearchAlike d second before from last
     → (u : ℕ) → from ≤ u → u ≤ last
     → formBehind d (policyRows first) (policyRows second) (before ++ u ∷ []) Ss ≡ formBehind d (policyRows first) (policyRows second) (before ++ from ∷ []) Ss
-unfolding AlikeAmong AlikeTo partingAt
-form-alike d first second f before e h Ss from last a b u p q =
+unfolding SearchAlike partingAt
+form-alike d first second before Ss from last a b u p q =
     normal-form-ext parting-≟ agreed Ss _ _
-    (λ vs ok.
-    rw (
-      append-assoc before (u ∷ []) vs,
-      append-assoc before (from ∷ []) vs,
-      search-alike d first f before e h u from vs 0 (length first / rowWords) (λ j k t. a j (omega arith) t u p q),
-      search-alike d second f before e h u from vs 0 (length second / rowWords) (λ j k t. b j (omega arith) t u p q),
-    ))
+    (λ vs ok. rw (append-assoc before (u ∷ []) vs, append-assoc before (from ∷ []) vs, a u p q vs, b u p q vs))
 
 -- The values of the first fields, with one more.
 values-last : (ps : List ℕ) (f n : ℕ) → valuesFrom ps f (n + 1) ≡ valuesFrom ps f n ++ valueOf ps (f + n) ∷ []

@@ -5,10 +5,13 @@ pub mod DecodeLaws
 pub mod Laid
 pub mod LaidLaws
 pub mod Steps
+pub mod Stretches
 pub mod StepsLaws
 pub mod Lists
 pub mod FormLaws
 pub mod ListsLaws
+pub mod AlikeLaws
 pub mod Turn
 pub mod Progress
+pub mod StretchesLaws
 pub mod NormalRows

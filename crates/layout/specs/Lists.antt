@@ -1,21 +1,17 @@
 -- Lists of the rows that are active. Assumes nothing: these are definitions.
 use Prim.Native.Nat.{ℕ, zero, suc, _/_, _≤_, _<_, min}
 use mathlib.Core.Path.{_≡_}
-use mathlib.Core.Bool.{Bool, cond}
 use mathlib.Core.List.{List, [], _∷_}
 use lib.ListN.{length, getD, take}
 use Rattle.selectors.specs.Range.{contains}
 use Rattle.selectors.specs.declared.Direction.{Direction}
 use Rattle.policy.specs.Words.{rowWords, rowLimit}
-use Rattle.layout.specs.Decode.{valuesFrom, rangeOf, active}
-use Rattle.layout.specs.Steps.{AlikeTo}
+use Rattle.agree.specs.Sides.{rangeOf, those, Takes}
+use Rattle.layout.specs.Decode.{valuesFrom, active}
+use Rattle.layout.specs.Steps.{AlikeTo, SearchAlike}
 use Rattle.layout.specs.declared.Branch.{Branch}
 
--- Those of the numbers for which the test is true; and n numbers from i on.
-unfoldable pub those : (ℕ → Bool) → List ℕ → List ℕ
-those p [] = []
-those p (x ∷ xs) = cond (p x) (x ∷ those p xs) (those p xs)
-
+-- n numbers from i on.
 unfoldable pub upFrom : ℕ → ℕ → List ℕ
 upFrom i zero = []
 upFrom i (suc n) = i ∷ upFrom (suc i) n
@@ -30,13 +26,7 @@ pub record Within (ws list : List ℕ) (n : ℕ) : Type 0 where
   pub fits : n ≤ rowLimit
   pub places : (k : ℕ) → k < n → getD list k 0 < length ws / rowWords
 
--- The first n numbers of a list are, in order, those that a test takes from other numbers.
-pub record Takes (test : ℕ → Bool) (among list : List ℕ) (n : ℕ) : Type 0 where
-  pub sized : length list ≡ rowLimit
-  pub fits : n ≤ rowLimit
-  pub rows : take n list ≡ those test among
-
--- They are the listed rows of a policy that are active.
+-- They are, in order, the listed rows of a policy that are active.
 abbrev pub Lists : Direction → List ℕ → ℕ → List ℕ → List ℕ → ℕ → Type 0
 Lists d ws f before list n = Takes (λ i. active d ws i f before) (upFrom 0 (listed ws)) list n
 
@@ -53,3 +43,9 @@ pub record BranchAt (d : Direction) (first second : List ℕ) (f : ℕ) (b : Bra
   pub sized : length (b .point .words) ≡ 10
   pub of-first : Lists d first f (valuesFrom (b .point .words) 0 f) xs (b .firsts)
   pub of-second : Lists d second f (valuesFrom (b .point .words) 0 f) ys (b .seconds)
+
+-- The first n numbers of a list are places of rows, and behind the values of the first fields no others part two values of the field f, if no
+-- more rows are there than are listed.
+pub record CutsAt (d : Direction) (ws : List ℕ) (f : ℕ) (before cuts : List ℕ) (n : ℕ) : Type 0 where
+  pub within : Within ws cuts n
+  pub alike : length ws / rowWords ≤ rowLimit → (from last : ℕ) → AlikeListed ws cuts n f from last → SearchAlike d ws before from last

@@ -1,16 +1,14 @@
 -- Laws of lists of rows. Assumes nothing.
-use Prim.Native.Nat.{ℕ, zero, suc, _+_, _-_, _*_, _/_, _≤_, _<_, min}
+use Prim.Native.Nat.{ℕ, zero, suc, _+_, _-_, _*_, _/_, _≤_, _<_}
 use native.Mathlib.Omega.{arith}
-use native.Mathlib.Decide.{decLt}
 use native.Mathlib.Nat.{min-le-left, min-eq-left}
 use native.Mathlib.Numerals.{add-one}
 use mathlib.Core.Path.{_≡_, refl, sym, _∙_, ap}
-use mathlib.Core.Bool.{Bool, true, false, cond, _&&_, false≢true, and-true, and-assoc}
+use mathlib.Core.Bool.{Bool, true, false, cond, _&&_, and-true, and-assoc}
 use mathlib.Core.List.{List, [], _∷_, _++_}
-use mathlib.Core.Logic.{_⊎_, ⊎-elim}
-use lib.ListN.{length, getD, set, take, drop, length-set}
-use lib.Seq.{length-take-le, getD-take, drop-cons, take-suc-set, take-set-le}
-use Rattle.selectors.specs.Range.{Range, contains}
+use lib.ListN.{length, getD, set, drop, length-set}
+use lib.Seq.{length-take-le, getD-take, drop-cons}
+use Rattle.selectors.specs.Range.{contains}
 use Rattle.selectors.specs.Value.{number}
 use Rattle.selectors.specs.declared.Direction.{Direction}
 use Rattle.selectors.specs.declared.Value.{Value}
@@ -19,53 +17,14 @@ use Rattle.policy.specs.Policy.{appliesTo, orderedSearch}
 use Rattle.policy.specs.Words.{actionWord, actionOf, directionOf, rowAt, rowsFrom, policyRows, rowWords, rowLimit}
 use Rattle.policy.specs.WordsLaws.{action-word}
 use Rattle.policy.specs.declared.Action.the-variants.{Discard}
-use Rattle.layout.specs.Decode.{valuesFrom, rangeOf, rangesFrom, active}
+use Rattle.agree.specs.Sides.{rangeOf, those, Takes}
+use Rattle.layout.specs.Decode.{valuesFrom, rangesFrom, active}
 use Rattle.layout.specs.DecodeLaws.{active-matches}
-use Rattle.layout.specs.Steps.{AlikeTo, AlikeAmong, Ends}
+use Rattle.layout.specs.Steps.{AlikeTo, Ends}
 use Rattle.layout.specs.StepsLaws.{alike-less, each-more}
 use Rattle.layout.specs.FormLaws.{values-length, values-with, ranges-split, ranges-length, holds-append}
-use Rattle.layout.specs.Lists.{those, upFrom, listed, Within, Takes, Lists, Narrowed, AlikeListed, BranchAt}
+use Rattle.layout.specs.Lists.{upFrom, listed, Within, Lists, Narrowed, AlikeListed, BranchAt}
 use Rattle.layout.specs.declared.Branch.{Branch}
-
--- One number more.
-module _ (p : ℕ → Bool) (x : ℕ) where
-  those-kept : (xs : List ℕ) → p x ≡ true → those p (xs ++ x ∷ []) ≡ those p xs ++ x ∷ []
-  unfolding those
-  those-kept [] e = rw e
-  those-kept (y ∷ xs) e = by (p y) refl (those-kept xs e)
-    where
-      by : (b : Bool) → p y ≡ b → those p (xs ++ x ∷ []) ≡ those p xs ++ x ∷ []
-          → cond (p y) (y ∷ those p (xs ++ x ∷ [])) (those p (xs ++ x ∷ [])) ≡ cond (p y) (y ∷ those p xs) (those p xs) ++ x ∷ []
-      by true g ih = rw (g, ih)
-      by false g ih = rw (g, ih)
-
-  those-passed : (xs : List ℕ) → p x ≡ false → those p (xs ++ x ∷ []) ≡ those p xs
-  unfolding those
-  those-passed [] e = rw e
-  those-passed (y ∷ xs) e = rw (those-passed xs e)
-
-  -- A list with the next number written behind the others: kept, or passed over.
-  module _ (xs list : List ℕ) (n : ℕ) (h : n < rowLimit) (t : Takes p xs list n) where
-    takes-kept : p x ≡ true → Takes p (xs ++ x ∷ []) (set list n x) (n + 1)
-    takes-kept e = record {
-      sized = length-set list n x ∙ t .sized;
-      fits = omega arith;
-      rows = rw (add-one n, take-suc-set list n x (omega (arith, t .sized)), t .rows) (sym (those-kept xs e));
-    }
-
-    takes-passed : p x ≡ false → Takes p (xs ++ x ∷ []) (set list n x) n
-    takes-passed e = record {
-      sized = length-set list n x ∙ t .sized;
-      fits = omega arith;
-      rows = take-set-le n list n x (omega arith) ∙ t .rows ∙ sym (those-passed xs e);
-    }
-
-    pub takes-next : (ys : List ℕ) → ys ≡ xs ++ x ∷ [] → (n′ : ℕ) → ((p x ≡ true) × (n′ ≡ n + 1)) ⊎ ((p x ≡ false) × (n′ ≡ n)) → Takes p ys (set list n x) n′
-    takes-next ys e n′ o = ⊎-elim (λ w. rw (e, w .1) (takes-kept (w .0))) (λ w. rw (e, w .1) (takes-passed (w .0))) o
-
-pub takes-none : (p : ℕ → Bool) (list : List ℕ) → length list ≡ rowLimit → Takes p [] list 0
-unfolding those
-takes-none p list e = record { sized = e; fits = omega arith; rows = refl }
 
 upFrom-more : (i n : ℕ) → upFrom i (suc n) ≡ upFrom i n ++ (i + n) ∷ []
 unfolding upFrom
@@ -76,7 +35,7 @@ pub rows-more : (n : ℕ) → upFrom 0 (n + 1) ≡ upFrom 0 n ++ n ∷ []
 rows-more n = let e : 0 + n ≡ n = omega arith in rw add-one (upFrom-more 0 n ∙ rw e)
 
 -- One test after another.
-those-both : (p q r : ℕ → Bool) → ((x : ℕ) → r x ≡ (p x && q x)) → (xs : List ℕ) → those r xs ≡ those q (those p xs)
+pub those-both : (p q r : ℕ → Bool) → ((x : ℕ) → r x ≡ (p x && q x)) → (xs : List ℕ) → those r xs ≡ those q (those p xs)
 unfolding those
 those-both p q r e [] = refl
 those-both p q r e (x ∷ xs) = rw (e x) (by (p x) (q x) refl refl (those-both p q r e xs))
@@ -87,7 +46,7 @@ those-both p q r e (x ∷ xs) = rw (e x) (by (p x) (q x) refl refl (those-both p
     by true false s t ih = rw (s, t, ih)
     by false b s t ih = rw (s, ih)
 
--- The numbers that a test takes from n numbers from i on: they are among these, and each for which it is true is one of them.
+-- The numbers that a test takes from n numbers from i on are among these.
 module _ (p : ℕ → Bool) where
   those-below : (i n k : ℕ) → k < length (those p (upFrom i n)) → getD (those p (upFrom i n)) k 0 < i + n
   unfolding those upFrom
@@ -100,21 +59,6 @@ module _ (p : ℕ → Bool) where
       by true e xs ih (suc k) g = let l : suc k < length (i ∷ xs) = rw e at g in rw e (omega (arith, ih k (omega arith)))
       by false e xs ih k g = rw e (omega (arith, ih k (rw e at g)))
 
-  -- What is true at each number that is taken.
-  those-each : (Q : ℕ → Type 0) (i n : ℕ) → ((k : ℕ) → k < length (those p (upFrom i n)) → Q (getD (those p (upFrom i n)) k 0))
-      → (j : ℕ) → i ≤ j → j < i + n → p j ≡ true → Q j
-  unfolding those upFrom
-  those-each Q i zero q j h g t = absurd (omega arith)
-  those-each Q i (suc n) q j h g t =
-      by (p i) refl (those p (upFrom (suc i) n)) q (λ all l. those-each Q (suc i) n all j l (omega arith) t) (decLt i j)
-    where
-      by : (b : Bool) → p i ≡ b → (xs : List ℕ) → ((k : ℕ) → k < length (cond (p i) (i ∷ xs) xs) → Q (getD (cond (p i) (i ∷ xs) xs) k 0))
-          → (((k : ℕ) → k < length xs → Q (getD xs k 0)) → suc i ≤ j → Q j) → Dec (i < j) → Q j
-      by true e xs all ih (yes l) = let a = rw e at all in ih (λ k m. a (suc k) (omega arith)) l
-      by true e xs all ih (no l) = let a = rw e at all in let z : i ≡ j = omega arith in rw z at (a 0 (omega arith))
-      by false e xs all ih (yes l) = ih (rw e at all) l
-      by false e xs all ih (no l) = let z : i ≡ j = omega arith in absurd (false≢true (sym e ∙ rw z t))
-
 -- A list of rows that a test takes from the first ones.
 module _ (p : ℕ → Bool) (m : ℕ) (list : List ℕ) (n : ℕ) (t : Takes p (upFrom 0 m) list n) where
   taken : length (those p (upFrom 0 m)) ≡ n
@@ -125,9 +69,6 @@ module _ (p : ℕ → Bool) (m : ℕ) (list : List ℕ) (n : ℕ) (t : Takes p (
 
   takes-below : (k : ℕ) → k < n → getD list k 0 < m
   takes-below k h = omega (arith, those-below p 0 m k (rw taken h), taken-at k h)
-
-  takes-each : (Q : ℕ → Type 0) → ((k : ℕ) → k < n → Q (getD list k 0)) → (j : ℕ) → j < m → p j ≡ true → Q j
-  takes-each Q q j h e = those-each p Q 0 m (λ k g. let c : k < n = rw taken at g in rw (taken-at k c) (q k c)) j (omega arith) (omega arith) e
 
 -- The rows of a list, one after the other.
 module _ (ws xs : List ℕ) (f from : ℕ) where
@@ -141,7 +82,7 @@ module _ (ws xs : List ℕ) (f from : ℕ) where
   listed-more n best last last′ s t =
       each-more (λ i l. AlikeTo (rangeOf ws (getD xs i 0) f) from l) (λ i l l′ h a. alike-less _ from l l′ h a) from n best last last′ s t
 
--- The listed rows of a policy that are active: they are rows of it, and values that are alike to them are alike to the listed rows.
+-- The listed rows of a policy that are active are rows of it.
 module _ (d : Direction) (ws : List ℕ) (f : ℕ) (before list : List ℕ) (n : ℕ) (t : Lists d ws f before list n) where
   pub lists-within : Within ws list n
   lists-within = record {
@@ -150,17 +91,9 @@ module _ (d : Direction) (ws : List ℕ) (f : ℕ) (before list : List ℕ) (n :
     places = λ k h. omega (arith, takes-below _ _ list n t k h, min-le-left (length ws / rowWords) rowLimit);
   }
 
-  lists-alike : (from last : ℕ) → AlikeListed ws list n f from last → AlikeAmong d ws (listed ws) f before from last
-  unfolding AlikeListed AlikeAmong
-  lists-alike from last a = takes-each _ _ list n t (λ i. AlikeTo (rangeOf ws i f) from last) a
-
-  pub lists-ends : (from best last : ℕ) → Ends from best last (AlikeListed ws list n f from last)
-      → Ends from last last (AlikeAmong d ws (listed ws) f before from last)
-  lists-ends from best last e = record { reaches = e .reaches; within = omega arith; alike = lists-alike from last (e .alike) }
-
 -- A row is active behind one more value if it was before and its range of the field holds the value.
 module _ (d : Direction) (ws : List ℕ) (f : ℕ) (before : List ℕ) (e : length before ≡ f) (v : ℕ) where
-  active-next : (i : ℕ) → active d ws i (f + 1) (before ++ v ∷ []) ≡ (active d ws i f before && contains (rangeOf ws i f) v)
+  pub active-next : (i : ℕ) → active d ws i (f + 1) (before ++ v ∷ []) ≡ (active d ws i f before && contains (rangeOf ws i f) v)
   unfolding active rangesFrom holds
   active-next i =
       let z : 0 + f ≡ f = omega arith in

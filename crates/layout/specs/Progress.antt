@@ -1,10 +1,11 @@
 -- The loop over a field in words: what it has laid out when it comes to a value, one turn, and its three ends. Assumes nothing.
-use Prim.Native.Nat.{ℕ, suc, _+_, _-_, _*_, _/_, _≤_, _<_, min}
+use Prim.Native.Nat.{ℕ, suc, _+_, _-_, _*_, _≤_, _<_, min}
 use native.Mathlib.Omega.{arith}
 use native.Mathlib.Decide.{decLe}
 use native.Mathlib.Nat.{min-eq-left}
 use native.Mathlib.Numerals.{add-one}
-use mathlib.Core.Path.{_≡_, sym, _∙_, ap}
+use mathlib.Core.Path.{_≡_, refl, sym, _∙_, ap}
+use mathlib.Core.Bool.{false, false≢true}
 use mathlib.Core.List.{List, [], _∷_, _++_}
 use mathlib.Core.Logic.{_⊎_, ⊎-elim}
 use lib.ListN.{length, getD, set, take, drop, length-drop, List·getD-append}
@@ -18,14 +19,17 @@ use Rattle.policy.specs.Words.{rowWords}
 use Rattle.layout.specs.Parting.{Parting, parting-≟}
 use Rattle.layout.specs.Decode.{valueOf, valuesFrom, sizesFrom, partRows}
 use Rattle.layout.specs.DecodeLaws.{rows-moved, rows-length}
-use Rattle.layout.specs.Steps.{formAt, wordsFor, LaidOut, AlikeAmong, Stamped, Merged, Begun, Placed}
+use Rattle.layout.specs.Steps.{formAt, wordsFor, LaidOut, SearchAlike, Stamped, Merged, Begun, Placed}
 use Rattle.layout.specs.StepsLaws.{stamped-done, laid-rows, laid-over, words-next}
 use Rattle.layout.specs.FormLaws.{form-field, form-alike, values-with}
-use Rattle.layout.specs.Turn.{Reached, reached-start, reached-rows, reached-length, reached-merged, reached-begun, rows-grow, layout-within}
+use Rattle.layout.specs.Turn.{Reached, reached-start, reached-rows, reached-length, reached-merged, reached-again, reached-begun, rows-grow, layout-within}
+use Rattle.layout.specs.Stretches.{isOver, Joins, StretchOut, PlacedStretch}
 use Rattle.layout.specs.declared.Kept.{Kept}
 use Rattle.layout.specs.declared.Task.{Task}
 use Rattle.layout.specs.declared.Laid.{Laid}
 use Rattle.layout.specs.declared.Laid.the-variants.{Rows, Over}
+use Rattle.layout.specs.declared.Stretch.{Stretch}
+use Rattle.layout.specs.declared.Stretch.the-variants.{Rows as StretchRows, Again, Over as StretchOver}
 
 module _ (first second : List ℕ) (task : Task) (before : List ℕ) (f : ℕ) where
   -- The layout behind the value v of the field f.
@@ -80,15 +84,13 @@ module _ (first second : List ℕ) (task : Task) (before : List ℕ) (f : ℕ) w
       ∙ sym (form-next h))
       g
 
-  -- One turn: the values v to w are alike, the layout behind them is written behind the rows so far, and placed.
-  module _ (h : f < 5) (e : length before ≡ f) (v w : ℕ) (g : v ≤ w)
-      (a : AlikeAmong (task .direction) first (length first / rowWords) f before v w)
-      (b : AlikeAmong (task .direction) second (length second / rowWords) f before v w)
-      (ws ws′ ws″ : List ℕ) (old new : Kept) (count : ℕ) (p : Progress ws old v)
-      (same : (j : ℕ) → j < old .next * rowWords → getD ws′ j 0 ≡ getD ws j 0)
-      (block : partRows (f + 1) (5 - (f + 1)) ws′ (old .next) count ≡ layoutAt v) where
+  -- One turn: the values v to w are alike. The rows so far are as before.
+  module _ (h : f < 5) (v w : ℕ) (g : v ≤ w)
+      (a : SearchAlike (task .direction) first before v w) (b : SearchAlike (task .direction) second before v w)
+      (ws ws′ : List ℕ) (old : Kept) (p : Progress ws old v)
+      (same : (j : ℕ) → j < old .next * rowWords → getD ws′ j 0 ≡ getD ws j 0) where
     alike : (u : ℕ) → v ≤ u → u ≤ w → layoutAt u ≡ layoutAt v
-    alike = form-alike (task .direction) first second f before e h _ v w a b
+    alike = form-alike (task .direction) first second before _ v w a b
 
     kept-rows : partRows f (suc (5 - (f + 1))) ws′ 0 (old .last) ≡ partRows f (suc (5 - (f + 1))) ws 0 (old .last)
     kept-rows = rows-moved ws ws′ f _ (omega arith) 0 0 (old .last) (λ k q. same _ (omega (arith, p .ordered)))
@@ -96,25 +98,36 @@ module _ (first second : List ℕ) (task : Task) (before : List ℕ) (f : ℕ) w
     kept-block : partRows (f + 1) (5 - (f + 1)) ws′ (old .last) (old .next - old .last) ≡ partRows (f + 1) (5 - (f + 1)) ws (old .last) (old .next - old .last)
     kept-block = rows-moved ws ws′ (f + 1) _ (omega arith) (old .last) (old .last) (old .next - old .last) (λ k q. same _ (omega (arith, p .ordered)))
 
-    merged-turn : Merged f (5 - (f + 1)) old count ws′ ws″ new → Progress ws″ new (suc w)
-    merged-turn m =
-        rw (m .words, m .kept) record {
+    -- The layout behind them is known to be that of the value before.
+    pub again-turn : Joins v layoutAt → Progress ws′ old (w + 1)
+    unfolding Joins
+    again-turn j =
+        rw (add-one w) record {
           ordered = p .ordered;
-          reached = rw (kept-rows, kept-block) (reached-merged parting-≟ layoutAt v w g alike _ _ _ (p .reached) (sym kept-block ∙ m .same ∙ block));
+          reached = rw (kept-rows, kept-block) (reached-again parting-≟ layoutAt v w g alike _ _ _ (p .reached) (j .0) (j .1));
         }
 
-    begun-turn : Begun f (5 - (f + 1)) old count v ws′ ws″ new → Progress ws″ new (suc w)
-    begun-turn m =
-        let c : new .next - new .last ≡ count = omega (arith, m .last, m .next) in
-        record {
-          ordered = omega (arith, m .last, m .next);
-          reached =
-              rw (c, m .last, m .low, m .done, m .block, block, kept-rows, kept-block)
-              (reached-begun parting-≟ layoutAt v w g alike _ _ _ (p .reached) (λ q. m .apart (kept-block ∙ q ∙ sym block)));
-        }
+    -- Or it is written behind the rows so far, and placed.
+    module _ (ws″ : List ℕ) (new : Kept) (count : ℕ) (block : partRows (f + 1) (5 - (f + 1)) ws′ (old .next) count ≡ layoutAt v) where
+      merged-turn : Merged f (5 - (f + 1)) old count ws′ ws″ new → Progress ws″ new (suc w)
+      merged-turn m =
+          rw (m .words, m .kept) record {
+            ordered = p .ordered;
+            reached = rw (kept-rows, kept-block) (reached-merged parting-≟ layoutAt v w g alike _ _ _ (p .reached) (sym kept-block ∙ m .same ∙ block));
+          }
 
-    pub turn : Placed f (5 - (f + 1)) old count v ws′ ws″ new → Progress ws″ new (w + 1)
-    turn m = rw (add-one w) (⊎-elim merged-turn begun-turn m)
+      begun-turn : Begun f (5 - (f + 1)) old count v ws′ ws″ new → Progress ws″ new (suc w)
+      begun-turn m =
+          let c : new .next - new .last ≡ count = omega (arith, m .last, m .next) in
+          record {
+            ordered = omega (arith, m .last, m .next);
+            reached =
+                rw (c, m .last, m .low, m .done, m .block, block, kept-rows, kept-block)
+                (reached-begun parting-≟ layoutAt v w g alike _ _ _ (p .reached) (λ q. m .apart (kept-block ∙ q ∙ sym block)));
+          }
+
+      pub turn : Placed f (5 - (f + 1)) old count v ws′ ws″ new → Progress ws″ new (w + 1)
+      turn m = rw (add-one w) (⊎-elim merged-turn begun-turn m)
 
 -- What an answer tells.
 module _ (limit f n : ℕ) (form : List (Row Parting)) (ws : List ℕ) where
@@ -142,31 +155,52 @@ module _ (a : ℕ) (xs part rest : List ℕ) (h : a ≤ length xs) where
       sym (ap (λ (i : ℕ). getD (take a xs ++ (part ++ rest)) i 0) l) ∙ getD-append-add (take a xs) (part ++ rest) j 0 ∙ List·getD-append part rest 0 j g
 
 -- One turn, the layout behind the values having been written into the part of the room behind the rows so far.
-pub turn-lent : (first second : List ℕ) (task : Task) (before : List ℕ) (f : ℕ) → f < 5 → length before ≡ f → (v w : ℕ) → v ≤ w
-    → AlikeAmong (task .direction) first (length first / rowWords) f before v w × AlikeAmong (task .direction) second (length second / rowWords) f before v w
+pub turn-lent : (first second : List ℕ) (task : Task) (before : List ℕ) (f : ℕ) → f < 5 → (v w : ℕ) → v ≤ w
+    → SearchAlike (task .direction) first before v w × SearchAlike (task .direction) second before v w
     → (ws part rest ws″ : List ℕ) (old new : Kept) (limit count : ℕ) → Progress first second task before f ws old v → old .next * rowWords ≤ length ws
     → limit * rowWords ≤ length part → (r : Laid) → r ≡ Rows count → LaidOut limit (f + 1) (5 - (f + 1)) (layoutAt first second task before f v) part r
     → Placed f (5 - (f + 1)) old count v (take (old .next * rowWords) ws ++ (part ++ rest)) ws″ new → Progress first second task before f ws″ new (w + 1)
-turn-lent first second task before f h e v w g ab ws part rest ws″ old new limit count p room enough r q l =
+turn-lent first second task before f h v w g ab ws part rest ws″ old new limit count p room enough r q l =
     let c = laid-count limit (f + 1) (5 - (f + 1)) _ part count r q l in
-    turn first second task before f h e v w g (ab .0) (ab .1) ws _ ws″ old new count p (lent-before (old .next * rowWords) ws part rest room)
+    turn first second task before f h v w g (ab .0) (ab .1) ws _ old p (lent-before (old .next * rowWords) ws part rest room) ws″ new count
     (rows-moved part (take (old .next * rowWords) ws ++ (part ++ rest)) (f + 1) (5 - (f + 1)) (omega arith) 0 (old .next) count
     (λ k q. lent-part (old .next * rowWords) ws part rest room k (omega (arith, c .0)) ∙ ap (λ (j : ℕ). getD part j 0) (omega arith))
     ∙ c .1)
 
+-- The same, where the layout may be known to be that of the value before.
+pub turn-stretch : (first second : List ℕ) (task : Task) (before : List ℕ) (f : ℕ) → f < 5 → (v w : ℕ) → v ≤ w
+    → SearchAlike (task .direction) first before v w × SearchAlike (task .direction) second before v w
+    → (ws part rest ws″ : List ℕ) (old new : Kept) (limit : ℕ) → Progress first second task before f ws old v → old .next * rowWords ≤ length ws
+    → limit * rowWords ≤ length part → (r : Stretch) → isOver r ≡ false
+    → StretchOut limit (f + 1) (5 - (f + 1)) v (layoutAt first second task before f) part r
+    → PlacedStretch f (5 - (f + 1)) old r v (take (old .next * rowWords) ws ++ (part ++ rest)) ws″ new → Progress first second task before f ws″ new (w + 1)
+unfolding isOver
+turn-stretch first second task before f h v w g ab ws part rest ws″ old new limit p room enough (StretchRows c) o s m =
+    turn-lent first second task before f h v w g ab ws part rest ws″ old new limit c p room enough (Rows c) refl (s .rows c refl) (m .placed c refl)
+turn-stretch first second task before f h v w g ab ws part rest ws″ old new limit p room enough Again o s m =
+    rw (m .again refl .0, m .again refl .1)
+    (again-turn first second task before f h v w g (ab .0) (ab .1) ws _ old p (lent-before (old .next * rowWords) ws part rest room) (s .again refl))
+turn-stretch first second task before f h v w g ab ws part rest ws″ old new limit p room enough StretchOver o s m = absurd (false≢true (sym o))
+
 -- The layout behind a value is that of the point with the value.
 module _ (first second : List ℕ) (task : Task) (ps hs : List ℕ) (f : ℕ) (v : Value) (p : length ps ≡ 10) (h : f < 5)
-    (e : hs ≡ set (set ps (2 * f) (v .upper)) (2 * f + 1) (v .lower)) (limit : ℕ) (ws : List ℕ) (r : Laid) where
-  pub laid-field : LaidOut limit (f + 1) (5 - (f + 1)) (formAt first second task (valuesFrom hs 0 (f + 1)) (f + 1) (5 - (f + 1))) ws r
-      → LaidOut limit (f + 1) (5 - (f + 1)) (layoutAt first second task (valuesFrom ps 0 f) f (number v)) ws r
-  laid-field l = rw (ap (λ (xs : List ℕ). valuesFrom xs 0 (f + 1)) e ∙ values-with ps f v (omega arith)) at l
+    (e : hs ≡ set (set ps (2 * f) (v .upper)) (2 * f + 1) (v .lower)) where
+  pub value-form : formAt first second task (valuesFrom hs 0 (f + 1)) (f + 1) (5 - (f + 1)) ≡ layoutAt first second task (valuesFrom ps 0 f) f (number v)
+  value-form =
+      ap (λ (us : List ℕ). formAt first second task us (f + 1) (5 - (f + 1)))
+      (ap (λ (xs : List ℕ). valuesFrom xs 0 (f + 1)) e ∙ values-with ps f v (omega arith))
 
-  pub laid-last : f + 1 ≡ 5 → LaidOut limit 5 0 (formAt first second task (valuesFrom hs 0 5) 5 0) ws r
-      → LaidOut limit (f + 1) (5 - (f + 1)) (layoutAt first second task (valuesFrom ps 0 f) f (number v)) ws r
-  laid-last k l = laid-field (at f (omega arith))
-    where
-      at : (g : ℕ) → g ≡ 4 → LaidOut limit (g + 1) (5 - (g + 1)) (formAt first second task (valuesFrom hs 0 (g + 1)) (g + 1) (5 - (g + 1))) ws r
-      at g q = rw q l
+  module _ (limit : ℕ) (ws : List ℕ) (r : Laid) where
+    pub laid-field : LaidOut limit (f + 1) (5 - (f + 1)) (formAt first second task (valuesFrom hs 0 (f + 1)) (f + 1) (5 - (f + 1))) ws r
+        → LaidOut limit (f + 1) (5 - (f + 1)) (layoutAt first second task (valuesFrom ps 0 f) f (number v)) ws r
+    laid-field l = rw value-form at l
+
+    pub laid-last : f + 1 ≡ 5 → LaidOut limit 5 0 (formAt first second task (valuesFrom hs 0 5) 5 0) ws r
+        → LaidOut limit (f + 1) (5 - (f + 1)) (layoutAt first second task (valuesFrom ps 0 f) f (number v)) ws r
+    laid-last k l = laid-field (at f (omega arith))
+      where
+        at : (g : ℕ) → g ≡ 4 → LaidOut limit (g + 1) (5 - (g + 1)) (formAt first second task (valuesFrom hs 0 (g + 1)) (g + 1) (5 - (g + 1))) ws r
+        at g q = rw q l
 
 -- The rows within the limit end at a word of the room, and the part behind it has room for the layout behind.
 pub record Room (limit f a : ℕ) (xs : List ℕ) : Type 0 where

@@ -1,5 +1,5 @@
 -- What the layout's steps leave. Assumes nothing: these are definitions.
-use Prim.Native.Nat.{ℕ, suc, _+_, _*_, _-_, _/_, _≤_, _<_}
+use Prim.Native.Nat.{ℕ, suc, _+_, _*_, _-_, _≤_, _<_}
 use mathlib.Core.Path.{_≡_}
 use mathlib.Core.Bool.{true}
 use mathlib.Core.List.{List, [], _∷_, _++_, map}
@@ -12,10 +12,11 @@ use Rattle.selectors.specs.declared.Direction.{Direction}
 use Rattle.selectors.specs.declared.Value.{Value}
 use Rattle.normal_form.specs.Search.{Row}
 use Rattle.normal_form.specs.NormalForm.{under, normalForm}
-use Rattle.policy.specs.Policy.{PolicyRow}
-use Rattle.policy.specs.Words.{policyRows, rowWords}
+use Rattle.policy.specs.Policy.{PolicyRow, orderedSearch}
+use Rattle.policy.specs.Words.{actionWord, policyRows, rowWords}
+use Rattle.agree.specs.Sides.{rangeOf}
 use Rattle.layout.specs.Parting.{Parting, parting-≟, agreed, partingAt}
-use Rattle.layout.specs.Decode.{valuesFrom, sizesFrom, rangeOf, active, partRow, partRows}
+use Rattle.layout.specs.Decode.{valuesFrom, sizesFrom, active, partRow, partRows}
 use Rattle.layout.specs.Laid.{answerOf}
 use Rattle.layout.specs.declared.Point.{Point}
 use Rattle.layout.specs.declared.Kept.{Kept}
@@ -55,9 +56,12 @@ AlikeTo r from last = (u : ℕ) → from ≤ u → u ≤ last → contains r u �
 unfoldable pub AlikeAmong : Direction → List ℕ → ℕ → ℕ → List ℕ → ℕ → ℕ → Type 0
 AlikeAmong d ws n f before from last = (i : ℕ) → i < n → active d ws i f before ≡ true → AlikeTo (rangeOf ws i f) from last
 
--- They are alike to all rows of a policy that are active at a point.
-abbrev pub AlikeIn : Direction → List ℕ → Point → ℕ → ℕ → ℕ → Type 0
-AlikeIn d ws point f from last = AlikeAmong d ws (length ws / rowWords) f (valuesFrom (point .words) 0 f) from last
+-- Behind the values of the first fields, the search gives the values from `from` to `last` of the next one the same action, whatever the later
+-- fields hold.
+unfoldable pub SearchAlike : Direction → List ℕ → List ℕ → ℕ → ℕ → Type 0
+SearchAlike d ws before from last =
+    (u : ℕ) → from ≤ u → u ≤ last → (us : List ℕ)
+    → actionWord (orderedSearch d (policyRows ws) (before ++ u ∷ us)) ≡ actionWord (orderedSearch d (policyRows ws) (before ++ from ∷ us))
 
 -- The last value of an interval that begins at `from` and ends at `best` at the latest; P says to what its values are alike.
 pub record Ends (from best last : ℕ) (P : Type 0) : Type 0 where

@@ -20,9 +20,10 @@ use Rattle.selectors.specs.declared.Value.{Value}
 use Rattle.normal_form.specs.Search.{Row, row}
 use Rattle.normal_form.specs.NormalForm.{under}
 use Rattle.policy.specs.Words.{rowWords}
-use Rattle.layout.specs.Decode.{wordOf, rangeOf, rangesFrom, active, partRow, partRows}
+use Rattle.agree.specs.Sides.{rangeOf}
+use Rattle.layout.specs.Decode.{wordOf, rangesFrom, active, partRow, partRows}
 use Rattle.layout.specs.DecodeLaws.{value-moved, ranges-moved, row-moved, rows-moved, rows-split, rows-length}
-use Rattle.layout.specs.Steps.{AlikeTo, AlikeAmong, Ends, Outside, Put, Stamped, Begun, LaidOut, wordsFor}
+use Rattle.layout.specs.Steps.{AlikeTo, AlikeAmong, SearchAlike, Ends, Outside, Put, Stamped, Begun, LaidOut, wordsFor}
 use Rattle.layout.specs.declared.Kept.{Kept}
 use Rattle.layout.specs.declared.Laid.the-variants.{Rows, Over}
 use Rattle.layout.specs.Parting.{Parting}
@@ -91,11 +92,10 @@ module _ (A : ℕ → ℕ → Type 0) (less : (i last last′ : ℕ) → last′
       by i g (no h) = let e : n ≡ i = omega arith in rw e at (t .alike)
 
 module _ (d : Direction) (ws : List ℕ) (f : ℕ) (before : List ℕ) (from : ℕ) where
-  among-less : (n last last′ : ℕ) → last′ ≤ last → AlikeAmong d ws n f before from last → AlikeAmong d ws n f before from last′
+  pub among-start : (best : ℕ) → from ≤ best → Ends from best best (AlikeAmong d ws 0 f before from best)
   unfolding AlikeAmong
-  among-less n last last′ h a i g t = alike-less _ from last last′ h (a i g t)
+  among-start best h = record { reaches = h; within = omega arith; alike = λ i g. absurd (omega arith) }
 
-  -- One row more.
   pub ends-more : (n best last last′ : ℕ) → Ends from best last (AlikeAmong d ws n f before from last)
       → Ends from last last′ (active d ws n f before ≡ true → AlikeTo (rangeOf ws n f) from last′)
       → Ends from best last′ (AlikeAmong d ws (n + 1) f before from last′)
@@ -104,14 +104,14 @@ module _ (d : Direction) (ws : List ℕ) (f : ℕ) (before : List ℕ) (from : �
       each-more (λ i l. active d ws i f before ≡ true → AlikeTo (rangeOf ws i f) from l) (λ i l l′ h a p. alike-less _ from l l′ h (a p)) from n best last last′ s t
 
 -- Two policies, one after the other.
-pub ends-both : (d : Direction) (ws ws′ : List ℕ) (n n′ f : ℕ) (before : List ℕ) (from best last last′ : ℕ)
-    → Ends from best last (AlikeAmong d ws n f before from last)
-    → Ends from last last′ (AlikeAmong d ws′ n′ f before from last′)
-    → Ends from best last′ (AlikeAmong d ws n f before from last′ × AlikeAmong d ws′ n′ f before from last′)
-ends-both d ws ws′ n n′ f before from best last last′ s t = record {
+pub ends-both : (d : Direction) (ws ws′ before : List ℕ) (from best last last′ : ℕ)
+    → Ends from best last (SearchAlike d ws before from last) → Ends from last last′ (SearchAlike d ws′ before from last′)
+    → Ends from best last′ (SearchAlike d ws before from last′ × SearchAlike d ws′ before from last′)
+unfolding SearchAlike
+ends-both d ws ws′ before from best last last′ s t = record {
   reaches = t .reaches;
   within = omega (arith, s .within, t .within);
-  alike = (among-less d ws f before from n last last′ (t .within) (s .alike), t .alike);
+  alike = (λ u g h. s .alike u g (omega (arith, t .within)), t .alike);
 }
 
 -- A value that was written.

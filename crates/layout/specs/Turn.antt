@@ -79,6 +79,16 @@ module _ {A : Type 0} (same? : Discrete A) where
     unfolding runs earlier lastLayout
     reached-start low = record { rows = refl; layout = refl; begins = λ h. refl }
 
+    -- The last interval so far has the layout of the last value.
+    last-run : (v : ℕ) → 0 < v → lastLayout (runs same? k v) ≡ k (v - 1)
+    unfolding runs lastLayout
+    last-run zero h = absurd (omega arith)
+    last-run (suc u) h = let e : suc u - 1 ≡ u = omega arith in by (list-≟ (row-≟ same?) (lastLayout (runs same? k u)) (k u)) ∙ ap k (sym e)
+      where
+        by : Dec (lastLayout (runs same? k u) ≡ k u) → lastLayout (push same? u u (k u) (runs same? k u)) ≡ k u
+        by (yes q) = merge u u (k u) (runs same? k u) q .1
+        by (no n) = rw (begin u u (k u) (runs same? k u) n)
+
     -- The rows so far, the last interval ending before v.
     pub reached-rows : (v : ℕ) (done block : List (Row A)) (low : ℕ) → Reached v done block low → rowsOf (runs same? k v) ≡ done ++ map (under low (v - 1)) block
     reached-rows v done block low r =
@@ -98,6 +108,10 @@ module _ {A : Type 0} (same? : Discrete A) where
             layout = m .1 ∙ sym e;
             begins = λ g. rw e (m .2 g ∙ rw e at (r .begins g));
           }
+
+      -- Behind a value that has the layout of the one before, the last interval goes on.
+      pub reached-again : 0 < v → k v ≡ k (v - 1) → Reached (suc w) done block low
+      reached-again z e = reached-merged (sym (r .layout) ∙ last-run v z ∙ sym e)
 
       pub reached-begun : block ≢ k v → Reached (suc w) (done ++ map (under low (v - 1)) block) (k v) v
       unfolding earlier lastLayout lastLow

@@ -3,7 +3,7 @@ ghost use mathlib.Core.Path.{_≡_};
 ghost use mathlib.Core.Bool.{true};
 ghost use mathlib.Core.List.{[]};
 ghost use mathlib.Core.Logic.{_↔_};
-ghost use Prim.Native.Nat.{_+_, _-_, _*_, _≤_, _<_, min};
+ghost use Prim.Native.Nat.{ℕ, _/_, _+_, _-_, _*_, _≤_, _<_, min};
 ghost use lib.ListN.{length, set};
 ghost use Rattle.selectors.specs.Range.{contains, sameRange};
 ghost use Rattle.selectors.specs.Ranges.{fromTo};
@@ -12,11 +12,15 @@ ghost use Rattle.selectors.specs.Words.{valueAt, rangeAt};
 ghost use Rattle.normal_form.specs.Search.{holds};
 ghost use Rattle.policy.specs.Policy.{orderedSearch};
 ghost use Rattle.policy.specs.Words.{policyRows, actionWord, rowLimit};
-ghost use Rattle.layout.specs.Decode.{valuesFrom, rangeOf, rangesFrom, active as isActive, partRow, partRows};
+ghost use Rattle.agree.specs.Sides.{rangeOf};
+ghost use Rattle.layout.specs.Decode.{valuesFrom, rangesFrom, active as isActive, partRow, partRows};
 ghost use Rattle.layout.specs.Laid.{sizesOf, Outcome};
-ghost use Rattle.layout.specs.Lists.{Lists, Within, Narrowed, AlikeListed, BranchAt};
+ghost use Rattle.layout.specs.Lists.{Lists, Within, Narrowed, AlikeListed, BranchAt, CutsAt};
 ghost use Rattle.layout.specs.Parting.{differenceForm};
-ghost use Rattle.layout.specs.Steps.{Ends, AlikeTo, AlikeIn, Put, Stamped, Placed, LaidOut, fieldForm, valueForm, wordsFor};
+ghost use Rattle.layout.specs.Steps.{Ends, AlikeTo, AlikeAmong, SearchAlike, Put, Stamped, Placed, LaidOut, fieldForm, valueForm, wordsFor};
+ghost use Rattle.layout.specs.Stretches.{isOver, stretchOf, Joins, StretchOut, PlacedStretch, Whole};
+ghost use Rattle.layout.specs.declared.Stretch.the-variants.{Rows as StretchRows};
+use cover::Bounds;
 use policy::Found;
 use policy::LIMIT;
 use policy::ROW_WORDS;
@@ -41,6 +45,16 @@ pub enum Laid {
     // More rows than the limit.
     Over,
     NoRoom,
+}
+
+// What is laid out behind a value of a field.
+enum Stretch {
+    // The count of the rows.
+    Rows(usize),
+    // The same rows as behind the value before.
+    Again,
+    // More rows than the limit.
+    Over,
 }
 
 // What a layout is asked for.
@@ -323,29 +337,48 @@ fn end_listed(
 }
 
 // The same for all rows of a policy that are active.
-fn end_among(
+fn end_of_all(
     rows: &[u64],
     direction: Direction,
     point: Point,
-    list: &[u16; LIMIT],
-    listed: usize,
     field: usize,
     from: Value,
     best: Value,
 ) -> Value
     requires { ⌜ (field < 5) × (number from ≤ number best) ⌝ }
-    requires { ⌜ Lists direction (now rows) field (valuesFrom (point .words) 0 field) (now list) listed ⌝ }
-    ensures { λ r. ⌜ Ends (number from) (number best) (number r) (AlikeIn direction (now (rows .entry)) point field (number from) (number r)) ⌝ }
+    ensures { λ r. ⌜ Ends (number from) (number best) (number r) (AlikeAmong direction (now (rows .entry)) (length (now (rows .entry)) / 22) field (valuesFrom (point .words) 0 field) (number from) (number r)) ⌝ }
 {
     let words = point.words;
     let count = rows.len() / ROW_WORDS;
-    let mut end = end_listed(rows, list, listed, field, from, best);
-    let mut row = listable(count);
+    let mut end = best;
+    let mut row: usize = 0;
     while row < count {
         end = row_end(rows, row, direction, &words, field, from, end);
         row += 1;
     }
     end
+}
+
+// The last value, up to `best`, to which the search treats all values like `from`: no listed row parts them, or no active row at all where a
+// policy has more rows than are listed.
+fn end_among(
+    rows: &[u64],
+    direction: Direction,
+    point: Point,
+    cuts: &[u16; LIMIT],
+    count: usize,
+    field: usize,
+    from: Value,
+    best: Value,
+) -> Value
+    requires { ⌜ (field < 5) × (number from ≤ number best) ⌝ }
+    requires { ⌜ CutsAt direction (now rows) field (valuesFrom (point .words) 0 field) (now cuts) count ⌝ }
+    ensures { λ r. ⌜ Ends (number from) (number best) (number r) (SearchAlike direction (now (rows .entry)) (valuesFrom (point .words) 0 field) (number from) (number r)) ⌝ }
+{
+    if rows.len() / ROW_WORDS <= LIMIT {
+        return end_listed(rows, cuts, count, field, from, best);
+    }
+    end_of_all(rows, direction, point, field, from, best)
 }
 
 fn same_range(words: &[u64], a: usize, b: usize) -> bool
@@ -445,7 +478,7 @@ fn same_block(room: &[u64], last: usize, next: usize, count: usize, field: usize
     same_rows(room, last, next, count, field)
 }
 
-// Merges the `count` rows behind the last interval, which are the layout at `from`, into it, or ends it and begins one with them.
+// The last interval goes on, or it ends and one begins with the `count` rows behind it, which are the layout at `from`.
 fn place(room: &mut [u64], kept: Kept, count: usize, field: usize, from: Value) -> Kept
     requires { ⌜ (field < 5) × ((kept .last ≤ kept .next) × ((kept .next + count) * 22 ≤ length (now room))) ⌝ }
     ensures { λ r. ⌜ Placed field (5 - (field + 1)) kept count (number from) (now (room .entry)) (now (room .exit)) r ⌝ }
@@ -491,20 +524,22 @@ fn leaf(
     Laid::Rows(1)
 }
 
-// The last value of the interval that begins at `from`: to it, no row of either policy treats two values differently.
+// The last value of the interval that begins at `from`: to it, both policies treat all values alike. The lists have the rows of the policies
+// that may part values of the branch's field.
 fn interval_end(
     first: &[u64],
     second: &[u64],
     task: Task,
     branch: Branch,
-    of_first: &[u16; LIMIT],
-    of_second: &[u16; LIMIT],
+    cuts: &[u16; LIMIT],
+    other_cuts: &[u16; LIMIT],
     from: Value,
     top: Value,
 ) -> Value
     requires { ⌜ (branch .field < 5) × (number from ≤ number top) ⌝ }
-    requires { ⌜ BranchAt (task .direction) (now first) (now second) (branch .field) branch (now «of_first») (now «of_second») ⌝ }
-    ensures { λ r. ⌜ Ends (number from) (number top) (number r) (AlikeIn (task .direction) (now (first .entry)) (branch .point) (branch .field) (number from) (number r) × AlikeIn (task .direction) (now (second .entry)) (branch .point) (branch .field) (number from) (number r)) ⌝ }
+    requires { ⌜ CutsAt (task .direction) (now first) (branch .field) (valuesFrom (branch .point .words) 0 (branch .field)) (now cuts) (branch .firsts) ⌝ }
+    requires { ⌜ CutsAt (task .direction) (now second) (branch .field) (valuesFrom (branch .point .words) 0 (branch .field)) (now «other_cuts») (branch .seconds) ⌝ }
+    ensures { λ r. ⌜ Ends (number from) (number top) (number r) (SearchAlike (task .direction) (now (first .entry)) (valuesFrom (branch .point .words) 0 (branch .field)) (number from) (number r) × SearchAlike (task .direction) (now (second .entry)) (valuesFrom (branch .point .words) 0 (branch .field)) (number from) (number r)) ⌝ }
 {
     let direction = task.direction;
     let point = branch.point;
@@ -513,7 +548,7 @@ fn interval_end(
         first,
         direction,
         point,
-        of_first,
+        cuts,
         branch.firsts,
         field,
         from,
@@ -523,7 +558,7 @@ fn interval_end(
         second,
         direction,
         point,
-        of_second,
+        other_cuts,
         branch.seconds,
         field,
         from,
@@ -531,7 +566,150 @@ fn interval_end(
     )
 }
 
-// Lays out what follows the field at its value `from`: the next field, or the leaf where none is left.
+// The last interval goes on behind a value that is treated like the one before it; else as above.
+fn place_stretch(room: &mut [u64], kept: Kept, laid: Stretch, field: usize, from: Value) -> Kept
+    requires { ⌜ (field < 5) × (kept .last ≤ kept .next) ⌝ }
+    requires { ⌜ ((count : ℕ) → laid ≡ StretchRows count → (kept .next + count) * 22 ≤ length (now room)) ⌝ }
+    ensures { λ r. ⌜ PlacedStretch field (5 - (field + 1)) kept laid (number from) (now (room .entry)) (now (room .exit)) r ⌝ }
+{
+    match laid {
+        Stretch::Rows(count) => place(room, kept, count, field, from),
+        Stretch::Again => kept,
+        Stretch::Over => kept,
+    }
+}
+
+fn is_over(laid: Stretch) -> bool
+    ensures { λ r. ⌜ r ≡ isOver laid ⌝ }
+{
+    match laid {
+        Stretch::Rows(_) => false,
+        Stretch::Again => false,
+        Stretch::Over => true,
+    }
+}
+
+// A layout as what is laid out behind a value.
+fn stretch_of(laid: Laid) -> Stretch
+    ensures { λ r. ⌜ r ≡ stretchOf laid ⌝ }
+{
+    match laid {
+        Laid::Rows(count) => Stretch::Rows(count),
+        Laid::Over => Stretch::Over,
+        Laid::NoRoom => Stretch::Over,
+    }
+}
+
+// The box of all values, by the highest value of each field.
+fn box_of(highest: Point) -> Bounds
+    ensures { λ r. ⌜ Whole highest (r .words) ⌝ }
+{
+    let t = highest.words;
+    Bounds {
+        words: [
+            0,
+            0,
+            t[0],
+            t[1],
+            0,
+            0,
+            t[2],
+            t[3],
+            0,
+            0,
+            t[4],
+            t[5],
+            0,
+            0,
+            t[6],
+            t[7],
+            0,
+            0,
+            t[8],
+            t[9],
+        ],
+    }
+}
+
+// Whether both policies have no more rows than are listed.
+fn all_listed(first: &[u64], second: &[u64]) -> bool
+    ensures { λ r. ⌜ (r ≡ true → (length (now (first .entry)) / 22 ≤ rowLimit) × (length (now (second .entry)) / 22 ≤ rowLimit)) ⌝ }
+{
+    if LIMIT < first.len() / ROW_WORDS {
+        return false;
+    }
+    second.len() / ROW_WORDS <= LIMIT
+}
+
+// Whether both policies are known to treat the value `from` of the branch's field like the one before it.
+fn joined(
+    first: &[u64],
+    second: &[u64],
+    task: Task,
+    branch: Branch,
+    of_first: &[u16; LIMIT],
+    of_second: &[u16; LIMIT],
+    from: Value,
+) -> bool
+    requires { ⌜ (branch .field < 5) × BranchAt (task .direction) (now first) (now second) (branch .field) branch (now «of_first») (now «of_second») ⌝ }
+    ensures { λ r. ⌜ (r ≡ true → Joins (number from) (valueForm (now (first .entry)) (now (second .entry)) task (branch .point) (branch .field))) ⌝ }
+{
+    let field = branch.field;
+    if field + 1 == FIELDS {
+        return false;
+    }
+    if !ZERO.less(from) {
+        return false;
+    }
+    if !all_listed(first, second) {
+        return false;
+    }
+    let bounds = box_of(task.highest);
+    let below = from.previous();
+    if !agree::same_behind(first, of_first, branch.firsts, field, below, from, bounds) {
+        return false;
+    }
+    agree::same_behind(
+        second,
+        of_second,
+        branch.seconds,
+        field,
+        below,
+        from,
+        bounds,
+    )
+}
+
+// Whether both policies are known to agree behind the branch's point, whatever its field and those after it hold.
+fn known_alike(
+    first: &[u64],
+    second: &[u64],
+    task: Task,
+    branch: Branch,
+    of_first: &[u16; LIMIT],
+    of_second: &[u16; LIMIT],
+) -> bool
+    requires { ⌜ (branch .field < 5) × BranchAt (task .direction) (now first) (now second) (branch .field) branch (now «of_first») (now «of_second») ⌝ }
+    ensures { λ r. ⌜ (r ≡ true → fieldForm (now (first .entry)) (now (second .entry)) task (branch .point) (branch .field) ≡ []) ⌝ }
+{
+    if !all_listed(first, second) {
+        return false;
+    }
+    let bounds = box_of(task.highest);
+    agree::agree(
+        first,
+        of_first,
+        branch.firsts,
+        second,
+        of_second,
+        branch.seconds,
+        branch.field,
+        bounds,
+    )
+}
+
+// Lays out what follows the field at its value `from`, unless it is known to be what follows the value before, or nothing: the next field, or
+// the leaf where none is left.
 fn layout_stretch(
     first: &[u64],
     second: &[u64],
@@ -541,11 +719,14 @@ fn layout_stretch(
     of_second: &[u16; LIMIT],
     from: Value,
     room: &mut [u64],
-) -> Laid
+) -> Stretch
     requires { ⌜ (branch .field < 5) × BranchAt (task .direction) (now first) (now second) (branch .field) branch (now «of_first») (now «of_second») ⌝ }
     requires { ⌜ wordsFor (task .limit) (5 - (branch .field + 1)) ≤ length (now room) ⌝ }
-    ensures { λ r. ⌜ LaidOut (task .limit) (branch .field + 1) (5 - (branch .field + 1)) (valueForm (now (first .entry)) (now (second .entry)) task (branch .point) (branch .field) (number from)) (now (room .exit)) r ⌝ }
+    ensures { λ r. ⌜ StretchOut (task .limit) (branch .field + 1) (5 - (branch .field + 1)) (number from) (valueForm (now (first .entry)) (now (second .entry)) task (branch .point) (branch .field)) (now (room .exit)) r ⌝ }
 {
+    if joined(first, second, task, branch, of_first, of_second, from) {
+        return Stretch::Again;
+    }
     let mut in_first = [0u16; LIMIT];
     let mut in_second = [0u16; LIMIT];
     let field = branch.field;
@@ -567,9 +748,12 @@ fn layout_stretch(
         seconds,
     };
     if inner == FIELDS {
-        return leaf(first, second, task, here, &in_first, &in_second, room);
+        return stretch_of(leaf(first, second, task, here, &in_first, &in_second, room));
     }
-    layout_field(first, second, task, here, &in_first, &in_second, room)
+    if known_alike(first, second, task, here, &in_first, &in_second) {
+        return Stretch::Rows(0);
+    }
+    stretch_of(layout_field(first, second, task, here, &in_first, &in_second, room))
 }
 
 // Lays out the branch's field and those after it: from interval to interval, each of which is laid out into the rest of the room.
@@ -589,17 +773,28 @@ fn layout_field(
     let field = branch.field;
     let highest = task.highest.words;
     let top = point_value(&highest, field);
+    let point = branch.point;
+    let mut cuts = [0u16; LIMIT];
+    let mut other_cuts = [0u16; LIMIT];
+    let firsts = agree::cutting(first, of_first, branch.firsts, field, &mut cuts);
+    let seconds = agree::cutting(second, of_second, branch.seconds, field, &mut other_cuts);
+    let cutters = Branch {
+        field,
+        point,
+        firsts,
+        seconds,
+    };
     let mut kept = START;
     let mut from = ZERO;
     loop {
-        let end = interval_end(first, second, task, branch, of_first, of_second, from, top);
+        let end = interval_end(first, second, task, cutters, &cuts, &other_cuts, from, top);
         let base = kept.next * ROW_WORDS;
         let rest = &mut room[base..];
         let laid = layout_stretch(first, second, task, branch, of_first, of_second, from, rest);
-        let Laid::Rows(count) = laid else {
+        if is_over(laid) {
             return Laid::Over;
-        };
-        kept = place(room, kept, count, field, from);
+        }
+        kept = place_stretch(room, kept, laid, field, from);
         let next = kept.next;
         if task.limit < next {
             return Laid::Over;
@@ -643,5 +838,8 @@ pub fn layout(
         highest,
         limit,
     };
+    if known_alike(first, second, task, branch, &of_first, &of_second) {
+        return Laid::Rows(0);
+    }
     layout_field(first, second, task, branch, &of_first, &of_second, room)
 }

@@ -7,11 +7,11 @@ use Rattle.decorrelate.specs.FormLaws.{ipv4-highest, form-outcome}
 use Rattle.decorrelate.proofs.normal_form.Statement.{statement}
 use Rattle.decorrelate.proofs.normal_form.Tie as tie
 
-slice-aggregate-difference : tie.Need-slice-aggregate-difference
-slice-aggregate-difference c = search needs
+slice-aggregate-layout : tie.Need-slice-aggregate-layout
+slice-aggregate-layout c = search needs
 
-difference-requires : tie.Need-difference-requires
-difference-requires c κs = search needs
+layout-requires : tie.Need-layout-requires
+layout-requires c κs = search needs
 
 same-length : tie.Need-same-length
 same-length c = search needs
@@ -19,8 +19,8 @@ same-length c = search needs
 returns : tie.Need-returns
 returns c =
     let a = c .before .before .before .before .before .before .before .args in
-    form-outcome rowLimit (a .direction) (now (a .rows)) _ (now (a .room)) _ _ (search needs) (c .before .before .difference .ensures) (ipv4-highest _ refl)
+    form-outcome rowLimit (a .direction) (now (a .rows)) _ (now (a .room)) _ _ (search needs) (c .before .before .layout .ensures) (ipv4-highest _ refl)
 
 pub normal-form-spec : {M : Type 1} → statement M
 normal-form-spec =
-    tie.close (tie.spec slice-aggregate-difference difference-requires same-length returns)
+    tie.close (tie.spec slice-aggregate-layout layout-requires same-length returns)

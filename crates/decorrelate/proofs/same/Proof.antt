@@ -15,20 +15,20 @@ use Rattle.decorrelate.proofs.same.Statement.{statement}
 use Rattle.decorrelate.proofs.same.Tie as tie
 
 -- What the difference's answer says of the policies.
-says : (c : tie.After-difference) (r : Laid) → c .difference .result ≡ r
+says : (c : tie.After-layout) (r : Laid) → c .layout .result ≡ r
     → (noRows r ≡ true)
     ↔ Agree ipv4Sizes (c .before .before .before .before .args .direction) (policyRows (now (c .before .before .before .before .args .first))) (policyRows (now (c .before .before .before .before .args .second)))
 says c r e =
     let s = c .before .before .before .before in
     subst
     (λ (q : Laid). (noRows q ≡ true) ↔ Agree ipv4Sizes (s .args .direction) (policyRows (now (s .args .first))) (policyRows (now (s .args .second)))) e
-    (answers-agree 1 _ (s .args .direction) _ _ _ _ _ (search needs) (c .difference .ensures) (ipv4-highest _ refl))
+    (answers-agree 0 _ (s .args .direction) _ _ _ _ _ (search needs) (c .layout .ensures) (ipv4-highest _ refl))
 
-slice-aggregate-difference : tie.Need-slice-aggregate-difference
-slice-aggregate-difference c = search needs
+slice-aggregate-layout : tie.Need-slice-aggregate-layout
+slice-aggregate-layout c = search needs
 
-difference-requires : tie.Need-difference-requires
-difference-requires c κs = search needs
+layout-requires : tie.Need-layout-requires
+layout-requires c κs = search needs
 
 enum-known-laid : tie.Need-enum-known-laid
 enum-known-laid c = search needs
@@ -54,8 +54,8 @@ pub same-spec : {M : Type 1} → statement M
 same-spec =
     tie.close
     (tie.spec
-    slice-aggregate-difference
-    difference-requires
+    slice-aggregate-layout
+    layout-requires
     enum-known-laid
     enum-told
     enum-told-2

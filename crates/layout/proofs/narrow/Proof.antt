@@ -11,9 +11,8 @@ use lib.Seq.{take-suc}
 use denote.Ref.{now}
 use Rattle.selectors.specs.Range.{contains}
 use Rattle.selectors.specs.Value.{number}
-use Rattle.layout.specs.Decode.{rangeOf}
-use Rattle.layout.specs.Lists.{Takes}
-use Rattle.layout.specs.ListsLaws.{takes-none, takes-next}
+use Rattle.agree.specs.Sides.{rangeOf, Takes}
+use Rattle.agree.specs.TakesLaws.{takes-none, takes-next}
 use borrow.Author.Needs.{needs}
 use Rattle.layout.proofs.narrow.Statement.{statement}
 use Rattle.layout.proofs.narrow.Tie as tie

@@ -5,9 +5,11 @@ use native.Mathlib.Omega.{arith}
 use mathlib.Core.Path.{_≡_, sym, _∙_}
 use mathlib.Core.List.{[]}
 use mathlib.Core.Logic.{inl, inr, ⊎-elim}
+use Rattle.agree.specs.Sides.{Takes}
 use Rattle.layout.specs.Decode.{valuesFrom, active}
-use Rattle.layout.specs.Lists.{Takes, upFrom}
-use Rattle.layout.specs.ListsLaws.{takes-none, takes-next, rows-more}
+use Rattle.layout.specs.Lists.{upFrom}
+use Rattle.agree.specs.TakesLaws.{takes-none, takes-next}
+use Rattle.layout.specs.ListsLaws.{rows-more}
 use borrow.Author.Needs.{needs}
 use Rattle.layout.proofs.rows_for.Statement.{statement}
 use Rattle.layout.proofs.rows_for.Tie as tie

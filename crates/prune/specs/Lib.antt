@@ -1,6 +1,0 @@
-pub mod Prune
-pub mod Boxes
-pub mod SearchLaws
-pub mod BoxLaws
-pub mod CopyLaws
-pub mod PrunedLaws
