@@ -9,6 +9,8 @@ use std::time::{Duration, Instant};
 
 /// A call that takes longer is given up.
 pub const LIMIT: Duration = Duration::from_secs(60);
+/// A call that takes longer is made once.
+pub const LONG: Duration = Duration::from_secs(1);
 
 /// A call, with its policy files.
 #[derive(Clone, Debug)]
@@ -67,13 +69,11 @@ impl Call {
         Timed { time: start.elapsed(), answer }
     }
 
-    /// The quickest of some runs, more of them where they are short; one where it takes over a
-    /// second.
+    /// The quickest of some runs, more of them where they are short.
     fn quickest(&self) -> Timed {
         let mut best = self.timed();
         let (mut runs, mut total) = (1, best.time);
-        while best.time < Duration::from_secs(1) && (runs < 3 || total < Duration::from_millis(300))
-        {
+        while best.time < LONG && (runs < 3 || total < Duration::from_millis(300)) {
             let next = self.timed();
             (runs, total) = (runs + 1, total + next.time);
             best.time = best.time.min(next.time);

@@ -1,6 +1,6 @@
 //! A climb to slow policies: rows are changed at chance, and what made the call slower is kept.
 
-use crate::calls::{Call, Timed, LIMIT};
+use crate::calls::{Call, Timed, LIMIT, LONG};
 use crate::families::FAMILIES;
 use crate::rows::{any_range, between, narrowed, place, Row};
 use crate::variants::any_pair;
@@ -128,7 +128,7 @@ impl<R: FnMut(&Slow)> Climb<R> {
         let mut timed = call.once();
         for _ in 0..2 {
             timed = match timed {
-                Some(one) if one.time > before => quicker(one, call.once()),
+                Some(one) if one.time > before && one.time < LONG => quicker(one, call.once()),
                 other => other,
             };
         }
