@@ -2,7 +2,7 @@
 
 use bench::climb::Target;
 use bench::families::Family;
-use bench::table::Column;
+use bench::table::{Column, COLUMNS};
 use specksonne::MOST_ROWS;
 use std::ffi::OsString;
 use std::time::Duration;
@@ -17,12 +17,12 @@ bench families [--rows N] [--seed N] [--family NAME [--column NAME]]
     costs); comparing a policy with itself, with its rows reordered where the search stays the
     same, and with one row changed, dropped or put in
     The quickest of some runs; a call is given up after 60 s. With --column, that cell alone.
-bench policy --family NAME [--rows N] [--seed N]
-    writes the policy file of a family
-bench climb --seconds N [--seed N] [--compare] --worst FILE
+bench policy --family NAME [--column NAME] [--rows N] [--seed N] --to FILE
+    writes the policy of a cell to FILE, and the copy that it is compared with to FILE.copy
+bench climb --seconds N [--seed N] [--compare] --to FILE
     changes policies to make normalising slower, or with --compare the comparison of a policy and
     a copy that is it or nearly; writes a line for each call that is slower than all before, and
-    its policy to FILE (the copy to FILE.copy)
+    its policy to FILE, the copy to FILE.copy
     Ends after N seconds, or where a call was given up.
 bench --help
 bench --version
@@ -46,8 +46,8 @@ pub enum Task {
     Ratios,
     Table { only: Option<&'static Family>, size: Size },
     Cell { family: &'static Family, column: &'static Column, size: Size },
-    Policy { family: &'static Family, size: Size },
-    Climb { target: Target, time: Duration, seed: u64, worst: String },
+    Policy { family: &'static Family, column: &'static Column, size: Size, to: String },
+    Climb { target: Target, time: Duration, seed: u64, to: String },
 }
 
 /// The arguments as they stand.
@@ -62,7 +62,7 @@ struct Arguments {
     family: Option<&'static Family>,
     column: Option<&'static Column>,
     compare: bool,
-    worst: Option<String>,
+    to: Option<String>,
 }
 
 pub fn parse(arguments: impl Iterator<Item = OsString>) -> Result<Task, String> {
@@ -93,7 +93,7 @@ impl Arguments {
             "--seconds" => self.seconds = Some(number(&value()?)?),
             "--family" => self.family = Some(named(Family::named, &value()?)?),
             "--column" => self.column = Some(named(Column::named, &value()?)?),
-            "--worst" => self.worst = Some(value()?),
+            "--to" => self.to = Some(value()?),
             _ => return Err(format!("no option {option}")),
         }
         Ok(())
@@ -110,8 +110,8 @@ impl Arguments {
         let words: Vec<&str> = words.iter().map(AsRef::as_ref).collect();
         match words[..] {
             [] if self.is_bare() => Ok(Task::Ratios),
-            ["families"] if !self.climbs() => self.table(),
-            ["policy"] if !self.climbs() && self.column.is_none() => self.policy(),
+            ["families"] if !self.climbs() && self.to.is_none() => self.table(),
+            ["policy"] if !self.climbs() => self.policy(),
             ["climb"] if self.rows.is_none() && self.family.is_none() && self.column.is_none() => {
                 self.climb()
             }
@@ -125,12 +125,13 @@ impl Arguments {
     }
 
     fn climbs(&self) -> bool {
-        self.seconds.is_some() || self.compare || self.worst.is_some()
+        self.seconds.is_some() || self.compare
     }
 
     fn is_bare(&self) -> bool {
-        let of_a_policy = self.family.is_some() || self.column.is_some();
-        !self.climbs() && !of_a_policy && self.rows.is_none() && self.seed.is_none()
+        let of_a_cell = self.family.is_some() || self.column.is_some();
+        let of_a_size = self.rows.is_some() || self.seed.is_some();
+        !self.climbs() && !of_a_cell && !of_a_size && self.to.is_none()
     }
 
     fn size(&self) -> Result<Size, String> {
@@ -155,18 +156,21 @@ impl Arguments {
     }
 
     fn policy(self) -> Result<Task, String> {
+        let size = self.size()?;
         let family = self.family.ok_or("say --family")?;
-        Ok(Task::Policy { family, size: self.size()? })
+        let column = self.column.unwrap_or(&COLUMNS[0]);
+        let to = self.to.ok_or("say --to")?;
+        Ok(Task::Policy { family, column, size, to })
     }
 
     fn climb(self) -> Result<Task, String> {
         let seed = self.seed();
         let target = if self.compare { Target::Compare } else { Target::Normalise };
         let seconds = self.seconds.ok_or("say --seconds")?;
-        let worst = self.worst.ok_or("say --worst")?;
+        let to = self.to.ok_or("say --to")?;
         // More than a year would be beyond the clock.
         let time = Duration::from_secs(seconds.min(365 * 86_400));
-        Ok(Task::Climb { target, time, seed, worst })
+        Ok(Task::Climb { target, time, seed, to })
     }
 }
 

@@ -5,9 +5,9 @@
 mod arguments;
 
 use arguments::{Size, Task, HELP};
-use bench::calls::shown;
+use bench::calls::{shown, Call};
 use bench::climb::{Climb, Slow, Target};
-use bench::{ratios, rows, table};
+use bench::{ratios, table};
 use std::io::{self, Write};
 use std::process::ExitCode;
 use std::time::{Duration, Instant};
@@ -42,32 +42,37 @@ fn run(task: Task) -> io::Result<()> {
         Task::Cell { family, column, size: Size { rows, seed } } => {
             writeln!(out, "{}", table::cell(family, column, rows, seed))
         }
-        Task::Policy { family, size: Size { rows, seed } } => {
-            out.write_all(&rows::file(&family.policy(rows, seed)))
+        Task::Policy { family, column, size: Size { rows, seed }, to } => {
+            write_files(&column.call(family, rows, seed), &to)
         }
-        Task::Climb { target, time, seed, worst } => climb(target, time, seed, &worst),
+        Task::Climb { target, time, seed, to } => climb(target, time, seed, &to),
     }
 }
 
 /// Climbs, and keeps the slowest policy in a file from the first on.
-fn climb(target: Target, time: Duration, seed: u64, worst: &str) -> io::Result<()> {
+fn climb(target: Target, time: Duration, seed: u64, to: &str) -> io::Result<()> {
     let start = Instant::now();
     let mut done = Ok(());
     let report = |slow: &Slow| {
         if done.is_ok() {
-            done = keep(slow, start.elapsed(), worst);
+            done = write_files(&slow.call, to).and_then(|()| write_line(slow, start.elapsed()));
         }
     };
     let tried = Climb::new(target, time, seed, report).run();
     done?;
-    writeln!(io::stdout(), "{tried} calls tried; the slowest is in {worst}")
+    writeln!(io::stdout(), "{tried} calls tried; the slowest is in {to}")
 }
 
-/// Writes a line of a slow call, and its files.
-fn keep(slow: &Slow, after: Duration, worst: &str) -> io::Result<()> {
-    for (file, name) in slow.call.files().iter().zip([worst.to_string(), format!("{worst}.copy")]) {
-        fs::write(name, file)?;
+/// Writes the policy of a call to a file, and the copy that it is compared with beside it.
+fn write_files(call: &Call, to: &str) -> io::Result<()> {
+    for (file, name) in call.files().iter().zip([to.to_string(), format!("{to}.copy")]) {
+        let named = |error: io::Error| io::Error::new(error.kind(), format!("{name}: {error}"));
+        fs::write(&name, file).map_err(named)?;
     }
+    Ok(())
+}
+
+fn write_line(slow: &Slow, after: Duration) -> io::Result<()> {
     let (timed, after) = (shown(&slow.timed), after.as_secs());
     let Slow { start, rows, tried, .. } = slow;
     writeln!(io::stdout(), "{after} s\t{timed} ms\t{rows} rows\tfrom {start}\tcall {tried}")

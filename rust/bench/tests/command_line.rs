@@ -1,6 +1,7 @@
 //! The program as it is called.
 
 use bench::table::COLUMNS;
+use specksonne::Policy;
 use std::ffi::OsString;
 use std::os::unix::ffi::OsStringExt;
 use std::path::Path;
@@ -35,7 +36,7 @@ fn help_and_refused_arguments() {
         (&["families", "--family", "nonsense"], "nothing here is called \"nonsense\""),
         (&["families", "--column", "same"], "--column needs --family"),
         (&["policy"], "say --family"),
-        (&["climb", "--seconds", "1"], "say --worst"),
+        (&["climb", "--seconds", "1"], "say --to"),
         (&["climb", "--seconds", "ten"], "\"ten\" is no number"),
     ];
     for (arguments, message) in refused {
@@ -63,15 +64,23 @@ fn a_line_of_the_table() {
     }
 }
 
-#[test]
-fn a_climb_keeps_the_slowest_policies() {
-    let file = Path::new(env!("CARGO_TARGET_TMPDIR")).join(format!("{}.worst", process::id()));
+/// The rows of a policy and of its copy, which the program wrote.
+fn written(arguments: &[&str], name: &str) -> (String, [usize; 2]) {
+    let file = Path::new(env!("CARGO_TARGET_TMPDIR")).join(format!("{}.{name}", process::id()));
     let (file, copy) = (file.display().to_string(), format!("{}.copy", file.display()));
-    let said = done(&["climb", "--compare", "--seconds", "1", "--worst", &file]);
-    assert!(said.contains(" ms\t") && said.contains("calls tried"), "{said}");
-    for name in [file, copy] {
+    let said = done(&[arguments, &["--to", &file]].concat());
+    let rows = [file, copy].map(|name| {
         let policy = fs::read(&name).expect("the file is written");
-        assert!(specksonne::Policy::parse(&policy).is_ok(), "{name}");
         fs::remove_file(name).expect("it is there");
-    }
+        Policy::parse(&policy).expect("a policy").rows()
+    });
+    (said, rows)
+}
+
+#[test]
+fn policies_are_written() {
+    let cell = ["--family", "random-actions", "--column", "dropped", "--rows", "9"];
+    assert_eq!(written(&[&["policy"][..], &cell].concat(), "dropped"), (String::new(), [9, 8]));
+    let (said, _) = written(&["climb", "--compare", "--seconds", "1"], "worst");
+    assert!(said.contains(" ms\t") && said.contains("calls tried"), "{said}");
 }
