@@ -1,68 +1,79 @@
-//! Times the proved library against the independent implementation, on the same inputs and in one
-//! run, so that the ratios hold whatever the machine does meanwhile.
+//! Times of the proved library.
 //!
-//!     cargo run --profile measure --offline -p bench
+//!     cargo run --profile measure --offline -p bench -- --help
 
-mod cases;
+mod arguments;
 
-use cases::{Case, Work};
-use std::hint::black_box;
+use arguments::{Size, Task, HELP};
+use bench::calls::{shown, Call};
+use bench::climb::{Climb, Slow, Target};
+use bench::{ratios, table};
+use std::io::{self, Write};
+use std::process::ExitCode;
 use std::time::{Duration, Instant};
+use std::{env, fs};
 
-/// Rounds of each side, by turns; the quickest round counts.
-const ROUNDS: usize = 15;
-/// How long a round is made, at least.
-const ROUND: Duration = Duration::from_millis(20);
-
-fn main() {
-    println!("{:<44} {:>12} {:>12} {:>7}", "case", "proved", "reference", "ratio");
-    for mut case in cases::all() {
-        let Case { name, proved, reference } = &mut case;
-        let (proved, reference) = quickest(proved, reference);
-        let ratio = proved / reference;
-        println!("{name:<44} {:>12} {:>12} {ratio:>7.2}", shown(proved), shown(reference));
-    }
-}
-
-/// The nanoseconds of one call of each, at their quickest.
-fn quickest(one: &mut Work, other: &mut Work) -> (f64, f64) {
-    let (one_calls, other_calls) = (calls_of_a_round(one), calls_of_a_round(other));
-    let mut best = (f64::INFINITY, f64::INFINITY);
-    for _ in 0..ROUNDS {
-        best.0 = best.0.min(round(one, one_calls));
-        best.1 = best.1.min(round(other, other_calls));
-    }
-    best
-}
-
-fn calls_of_a_round(work: &mut Work) -> u32 {
-    let mut calls = 1;
-    loop {
-        let start = Instant::now();
-        repeat(work, calls);
-        if start.elapsed() > ROUND {
-            return calls;
+fn main() -> ExitCode {
+    let task = match arguments::parse(env::args_os().skip(1)) {
+        Ok(task) => task,
+        Err(message) => {
+            eprintln!("bench: {message}; `bench --help` says more");
+            return 2.into();
         }
-        calls *= 2;
+    };
+    match run(task) {
+        Ok(()) => 0.into(),
+        // Nobody is there to read it.
+        Err(error) if error.kind() == io::ErrorKind::BrokenPipe => 0.into(),
+        Err(error) => {
+            eprintln!("bench: {error}");
+            1.into()
+        }
     }
 }
 
-fn round(work: &mut Work, calls: u32) -> f64 {
+fn run(task: Task) -> io::Result<()> {
+    let mut out = io::stdout();
+    match task {
+        Task::Help => out.write_all(HELP.as_bytes()),
+        Task::Version => writeln!(out, concat!("bench ", env!("CARGO_PKG_VERSION"))),
+        Task::Ratios => ratios::write(),
+        Task::Table { only, size: Size { rows, seed } } => table::write(only, rows, seed),
+        Task::Cell { family, column, size: Size { rows, seed } } => {
+            writeln!(out, "{}", table::cell(family, column, rows, seed))
+        }
+        Task::Policy { family, column, size: Size { rows, seed }, to } => {
+            write_files(&column.call(family, rows, seed), &to)
+        }
+        Task::Climb { target, time, seed, to } => climb(target, time, seed, &to),
+    }
+}
+
+/// Climbs, and keeps the slowest policy in a file from the first on.
+fn climb(target: Target, time: Duration, seed: u64, to: &str) -> io::Result<()> {
     let start = Instant::now();
-    repeat(work, calls);
-    start.elapsed().as_nanos() as f64 / f64::from(calls)
+    let mut done = Ok(());
+    let report = |slow: &Slow| {
+        if done.is_ok() {
+            done = write_files(&slow.call, to).and_then(|()| write_line(slow, start.elapsed()));
+        }
+    };
+    let tried = Climb::new(target, time, seed, report).run();
+    done?;
+    writeln!(io::stdout(), "{tried} calls tried; the slowest is in {to}")
 }
 
-fn repeat(work: &mut Work, calls: u32) {
-    for _ in 0..calls {
-        black_box(work());
+/// Writes the policy of a call to a file, and the copy that it is compared with beside it.
+fn write_files(call: &Call, to: &str) -> io::Result<()> {
+    for (file, name) in call.files().iter().zip([to.to_string(), format!("{to}.copy")]) {
+        let named = |error: io::Error| io::Error::new(error.kind(), format!("{name}: {error}"));
+        fs::write(&name, file).map_err(named)?;
     }
+    Ok(())
 }
 
-fn shown(nanoseconds: f64) -> String {
-    match nanoseconds {
-        n if n < 1e4 => format!("{n:.0} ns"),
-        n if n < 1e7 => format!("{:.1} us", n / 1e3),
-        n => format!("{:.1} ms", n / 1e6),
-    }
+fn write_line(slow: &Slow, after: Duration) -> io::Result<()> {
+    let (timed, after) = (shown(&slow.timed), after.as_secs());
+    let Slow { start, rows, tried, .. } = slow;
+    writeln!(io::stdout(), "{after} s\t{timed} ms\t{rows} rows\tfrom {start}\tcall {tried}")
 }

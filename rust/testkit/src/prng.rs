@@ -36,6 +36,13 @@ impl Prng {
         &choices[self.below(choices.len() as u64) as usize]
     }
 
+    /// Puts the items in any order.
+    pub fn shuffle<T>(&mut self, items: &mut [T]) {
+        for place in (1..items.len()).rev() {
+            items.swap(place, self.below(place as u64 + 1) as usize);
+        }
+    }
+
     pub fn byte(&mut self) -> u8 {
         self.number() as u8
     }

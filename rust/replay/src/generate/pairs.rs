@@ -104,13 +104,13 @@ impl Generator {
         let [spi, any] = [some_spi(&mut self.prng), some_spi(&mut self.prng)];
         let other = *self.prng.pick(&[any, (spi + 1).min(SPI_TOP), 256]);
         let mut names = [(ESP, spi), (AH, spi), (*self.prng.pick(&[ESP, AH]), other)];
-        shuffle(&mut self.prng, &mut names);
+        self.prng.shuffle(&mut names);
         for (protocol, inbound_spi) in names {
             let outbound_spi = some_spi(&mut self.prng);
             self.add_pair(PairSpec { protocol, inbound_spi, outbound_spi, number: 7, ranges });
             self.hit_line("out", 0);
         }
-        shuffle(&mut self.prng, &mut names);
+        self.prng.shuffle(&mut names);
         for (protocol, inbound_spi) in names {
             self.remove_named(protocol, inbound_spi);
             self.hit_line("out", 0);
@@ -230,12 +230,6 @@ fn some_spi(prng: &mut Prng) -> u64 {
     match prng.below(3) {
         0 => prng.between(1 << 24, SPI_TOP),
         _ => prng.between(256, 400),
-    }
-}
-
-fn shuffle<T>(prng: &mut Prng, items: &mut [T]) {
-    for place in (1..items.len()).rev() {
-        items.swap(place, prng.below(place as u64 + 1) as usize);
     }
 }
 
