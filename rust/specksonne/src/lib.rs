@@ -14,7 +14,7 @@
 //! # Stack
 //!
 //! [`Gateway::set_policy`], [`normalise`], [`normalise_into`] and [`same_policy`] need up to 1 MiB of
-//! stack (measured: 540, 470, 470 and 210 KiB), every other call less than 64 KiB. A thread that
+//! stack (measured: 450, 390, 390 and 120 KiB), every other call less than 64 KiB. A thread that
 //! Rust starts has 2 MiB unless it is told otherwise.
 #![warn(missing_docs)]
 

@@ -194,8 +194,7 @@ impl Error for Refused {
 }
 
 /// Whether two policy files treat every packet of one direction alike, however many rows their
-/// normal forms have. It needs up to 1 MiB of stack, and for large policies that are alike it can
-/// take seconds.
+/// normal forms have. It needs up to 1 MiB of stack.
 ///
 /// ```
 /// use specksonne::{same_policy, Direction, Refusal, Refused};
