@@ -16,7 +16,8 @@ bench families [--rows N] [--seed N] [--family NAME [--column NAME]]
     answer, as a table in Markdown: normalising for out; acceptance (what `specksonne check`
     costs); comparing a policy with itself, with its rows reordered where the search stays the
     same, and with one row changed, dropped or put in
-    The quickest of some runs; a call is given up after 60 s. With --column, that cell alone.
+    The quickest of some runs, in processor time; a call is given up after 60 s. With --column,
+    that cell alone.
 bench policy --family NAME [--column NAME] [--rows N] [--seed N] --to FILE
     writes the policy of a cell to FILE, and the copy that it is compared with to FILE.copy
 bench climb --seconds N [--seed N] [--compare] --to FILE
