@@ -24,8 +24,9 @@
  *
  * Time, as measured (docs/PERFORMANCE.md): a packet takes up to 2 microseconds. Laying a policy
  * out (specksonne_policy for both directions, specksonne_normalise for one) and comparing two
- * (specksonne_same) take milliseconds, and less than 0.2 s for the hardest policies of 256 rows
- * that were found. What is proved is that they end, not when: call them where a wait does no harm.
+ * (specksonne_same) take milliseconds, and up to 0.2 s for each direction of the hardest policy of
+ * 256 rows that was found. What is proved is that they end, not when: call them where a wait does
+ * no harm.
  *
  * Numbers returned are those of document 01's table, and `carries` is what the answer carries,
  * zeros where nothing is listed. Any words may be lent as a policy, a table or a cache: then a
