@@ -7,24 +7,18 @@ ghost use Rattle.policy_print.specs.Printing.{printed, printedIn, printedRoom};
 ghost use Rattle.normaliser.specs.Normalise.{normalised, normalisedBytes};
 ghost use Rattle.normaliser.specs.Steps.{answered};
 use decorrelate::Form;
-use policy::LIMIT;
 use policy::POLICY_WORDS;
 use policy::ROW_WORDS;
 use policy_print::Printed;
-use policy_text::Parsed;
+use policy_text::File;
+use policy_text::Refusal;
 use selectors::Direction;
 
 pub enum Normalised {
     // 5: the count of bytes printed.
     Printed(usize),
-    // 23: the first nine bytes aren't the header line.
-    NotHeader,
-    // 24: the last byte isn't LF.
-    NotEnded,
-    // 21: too many rows.
-    TooMany,
-    // 20: a bad row, with its number, the first being 1.
-    BadRow(usize),
+    // 23, 24, 21, 20: the file is no policy.
+    Refused(Refusal),
     // 22: the normal form for the direction has too many rows.
     TooLarge(Direction),
     // 31: the lent room is shorter than the printed file.
@@ -61,13 +55,9 @@ pub fn normalise(bytes: &[u8], direction: Direction, out: &mut [u8]) -> Normalis
     ensures { λ _. ⌜ now (out .exit) ≡ normalisedBytes rowLimit direction (now (out .entry)) (parsePolicy rowLimit (now (bytes .entry))) ⌝ }
 {
     let mut policy = [0u64; POLICY_WORDS];
-    let parsed = policy_parse::parse(bytes, LIMIT, &mut policy);
-    match parsed {
-        Parsed::Rows(n) => print_form(&policy[..n * ROW_WORDS], direction, out),
-        Parsed::NotHeader => Normalised::NotHeader,
-        Parsed::NotEnded => Normalised::NotEnded,
-        Parsed::TooMany => Normalised::TooMany,
-        Parsed::BadRow(row) => Normalised::BadRow(row),
-        Parsed::NoRoom => Normalised::NoRoom,
+    let file = policy_parse::parse_policy(bytes, &mut policy);
+    match file {
+        File::Rows(n) => print_form(&policy[..n * ROW_WORDS], direction, out),
+        File::Refused(refusal) => Normalised::Refused(refusal),
     }
 }

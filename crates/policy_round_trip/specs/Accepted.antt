@@ -17,10 +17,10 @@ use Rattle.policy.specs.declared.RowDirection.{RowDirection}
 use Rattle.policy.specs.Policy.{PolicyRow}
 use Rattle.policy_text.specs.declared.Number.{Number}
 use Rattle.policy_text.specs.declared.Number.the-variants.{Is, Bad}
-use Rattle.policy_text.specs.declared.Parsed.{Parsed}
-use Rattle.policy_text.specs.declared.Parsed.the-variants.{NotHeader, NotEnded, TooMany}
+use Rattle.policy_text.specs.declared.Refusal.{Refusal}
+use Rattle.policy_text.specs.declared.Refusal.the-variants.{NotHeader, NotEnded, TooMany}
 use Rattle.policy_text.specs.Bytes.{lf, dash, slash, has, before, after, count, sameBytes}
-use Rattle.policy_text.specs.Format.{any, bypassWord, discardWord, protectWord, header, decimal, address, isMask, made, spanned, maskedRange, ends, addressField, protocolField, portEnd, portField, protect, directionField, actionField, rowMade, field, fieldsFrom, rowOf, linesOf, Policy, refused, rows, ontoRow, rowsOf, parsePolicy}
+use Rattle.policy_text.specs.Format.{any, bypassWord, discardWord, protectWord, header, decimal, address, isMask, made, spanned, maskedRange, ends, addressField, protocolField, portEnd, portField, protect, directionField, actionField, rowMade, field, fieldsFrom, rowOf, linesOf, Lines, allRows, badRow, ontoRow, rowsOf, Policy, refused, rows, policyOf, parsePolicy}
 use Rattle.policy_text.specs.FormatLaws.{AtMost, decimal-at-most}
 use Rattle.policy_round_trip.specs.Ranges.{inField-ends}
 use Rattle.policy_round_trip.specs.Rows.{Proper, Printable}
@@ -107,38 +107,43 @@ row-in s =
     (portField (field 5 s)) (portField (fieldsFrom 6 s)) (action-in (field 1 s)) (address-in (field 2 s)) (address-in (field 3 s)) (protocol-in (field 4 s))
     (port-in (field 5 s)) (port-in (fieldsFrom 6 s))
 
--- A refusal, or at most n rows, all of which can be printed.
-abbrev Rows : ℕ → Policy → Type 0
-Rows n (refused p) = Unit
-Rows n (rows rs) = AllPrintable rs × (length rs ≤ n)
+-- A bad row, or at most n rows, all of which can be printed.
+abbrev Read : ℕ → Lines → Type 0
+Read n (badRow k) = Unit
+Read n (allRows rs) = AllPrintable rs × (length rs ≤ n)
 
-onto-in : (i n : ℕ) (r : Option PolicyRow) (rest : Policy) → Reads Printable r → Rows n rest → Rows (suc n) (ontoRow i r rest)
+onto-in : (i n : ℕ) (r : Option PolicyRow) (rest : Lines) → Reads Printable r → Read n rest → Read (suc n) (ontoRow i r rest)
 onto-in i n none rest h k = tt
-onto-in i n (some r) (refused p) h k = tt
-onto-in i n (some r) (rows rs) h k =
+onto-in i n (some r) (badRow b) h k = tt
+onto-in i n (some r) (allRows rs) h k =
     (λ q m. ⊎-elim (λ e. rw e h) (k .0 q) (List·Memᴰ·cases-cons m), omega arith)
 
-lines-in : (i n : ℕ) (s : List ℕ) → Rows n (rowsOf i (linesOf n s))
+lines-in : (i n : ℕ) (s : List ℕ) → Read n (rowsOf i (linesOf n s))
 unfolding rowsOf linesOf
 lines-in i zero s = (λ q m. absurd (List·Memᴰ·not-nil m), omega arith)
 lines-in i (suc n) s = onto-in i n (rowOf (before lf s)) (rowsOf (i + 1) (linesOf n (after lf s))) (row-in (before lf s)) (lines-in (i + 1) n (after lf s))
 
-rows-in : (i : ℕ) (ls : List (List ℕ)) → Rows (length ls) (rowsOf i ls)
+rows-in : (i : ℕ) (ls : List (List ℕ)) → Read (length ls) (rowsOf i ls)
 unfolding rowsOf
 rows-in i [] = (λ q m. absurd (List·Memᴰ·not-nil m), omega arith)
 rows-in i (l ∷ ls) = onto-in i (length ls) (rowOf l) (rowsOf (i + 1) ls) (row-in l) (rows-in (i + 1) ls)
 
 -- What is read from lines can be printed.
-pub rows-printable : (i : ℕ) (ls : List (List ℕ)) (rs : List PolicyRow) → rowsOf i ls ≡ rows rs → AllPrintable rs
+pub rows-printable : (i : ℕ) (ls : List (List ℕ)) (rs : List PolicyRow) → rowsOf i ls ≡ allRows rs → AllPrintable rs
 rows-printable i ls rs e = (rw e at (rows-in i ls)) .0
 
-widen : (n m : ℕ) (p : Policy) → n ≤ m → Rows n p → Rows m p
-widen n m (refused p) h k = tt
-widen n m (rows rs) h k = (k .0, omega arith)
+-- A refusal, or at most n rows, all of which can be printed.
+abbrev Rows : ℕ → Policy → Type 0
+Rows n (refused r) = Unit
+Rows n (rows rs) = AllPrintable rs × (length rs ≤ n)
 
-unless : (n : ℕ) (t : Bool) (a : Policy) (p : Parsed) → (t ≡ true → Rows n a) → Rows n (cond t a (refused p))
-unless n true a p h = h refl
-unless n false a p h = tt
+widen : (n m : ℕ) (l : Lines) → n ≤ m → Read n l → Rows m (policyOf l)
+widen n m (badRow b) h k = tt
+widen n m (allRows rs) h k = (k .0, omega arith)
+
+unless : (n : ℕ) (t : Bool) (a : Policy) (r : Refusal) → (t ≡ true → Rows n a) → Rows n (cond t a (refused r))
+unless n true a r h = h refl
+unless n false a r h = tt
 
 policy-in : (limit : ℕ) (s : List ℕ) → Rows limit (parsePolicy limit s)
 unfolding parsePolicy

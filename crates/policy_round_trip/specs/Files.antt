@@ -1,14 +1,14 @@
 -- Files, printed and read. Assumes nothing.
 use Prim.Native.Nat.{ℕ, _+_, _-_, _*_, _≤_}
 use native.Mathlib.Omega.{arith}
-use mathlib.Core.Path.{_≡_, refl}
+use mathlib.Core.Path.{_≡_, refl, ap}
 use mathlib.Core.List.{List, [], _∷_, _++_, append-assoc, List·Memᴰ, List·Memᴰ·head, List·Memᴰ·tail}
 use lib.ListN.{length, take, getD, length-append}
 use lib.Seq.{getD-append-seam}
 use borrow.Author.Tests.{le-leb}
 use Rattle.policy.specs.Policy.{PolicyRow}
 use Rattle.policy_text.specs.Bytes.{lf, count, sameBytes}
-use Rattle.policy_text.specs.Format.{header, rows, linesOf, rowsOf, parsePolicy}
+use Rattle.policy_text.specs.Format.{header, linesOf, allRows, rowsOf, rows, policyOf, parsePolicy}
 use Rattle.policy_text.specs.Print.{rowText, rowsText, policyText}
 use Rattle.policy_round_trip.specs.Cuts.{count-append, before-seam, after-seam}
 use Rattle.policy_round_trip.specs.Rows.{Printable, row-back, row-one-line, row-length}
@@ -34,7 +34,7 @@ unfolding count rowsText
 count-rows [] a = refl
 count-rows (r ∷ rs) a = rw (rows-cons r rs, count-append, row-one-line r (first-printable a)) (omega (arith, count-rows rs (rest-printable a)))
 
-lines-back : (i : ℕ) (rs : List PolicyRow) → AllPrintable rs → rowsOf i (linesOf (length rs) (rowsText rs)) ≡ rows rs
+lines-back : (i : ℕ) (rs : List PolicyRow) → AllPrintable rs → rowsOf i (linesOf (length rs) (rowsText rs)) ≡ allRows rs
 unfolding rowsOf linesOf
 lines-back i [] a = refl
 lines-back i (r ∷ rs) a =
@@ -59,7 +59,7 @@ last-lf s (r ∷ rs) = rw (rows-cons r rs, ← append-assoc s (lf ∷ rowText r)
 pub parse-printed : (limit : ℕ) (rs : List PolicyRow) → AllPrintable rs → length rs ≤ limit → parsePolicy limit (policyText rs) ≡ rows rs
 unfolding parsePolicy policyText sameBytes
 parse-printed limit rs a h =
-    rw (last-lf (take 8 header) rs, count-rows rs a, le-leb (length rs) limit h) (lines-back 1 rs a)
+    rw (last-lf (take 8 header) rs, count-rows rs a, le-leb (length rs) limit h) (ap policyOf (lines-back 1 rs a))
 
 -- Rows that are printed alike are the same rows.
 pub printing-injective : (rs qs : List PolicyRow) → AllPrintable rs → AllPrintable qs → policyText rs ≡ policyText qs → rs ≡ qs

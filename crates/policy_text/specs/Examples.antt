@@ -9,7 +9,7 @@ use Rattle.policy.specs.declared.Action.the-variants.{Bypass, Protect}
 use Rattle.policy.specs.declared.RowDirection.the-variants.{Only, Both}
 use Rattle.policy.specs.Policy.{PolicyRow}
 use Rattle.policy_text.specs.declared.Number.the-variants.{Is, Bad}
-use Rattle.policy_text.specs.declared.Parsed.the-variants.{NotHeader, NotEnded, TooMany, BadRow}
+use Rattle.policy_text.specs.declared.Refusal.the-variants.{NotHeader, NotEnded, TooMany, BadRow}
 use Rattle.policy_text.specs.Bytes.{lf, index, has, before, after, count, sameBytes}
 use Rattle.policy_text.specs.Format.{any, header, digits, value, unpadded, decimal, address, maskBelow, maskedRange, protocolField, portField, addressField, directionField, actionField, field, fieldsFrom, rowOf, linesOf, rows, refused, rowsOf, parsePolicy}
 use Rattle.policy_text.specs.Print.{digitsOf, decimalText, dotted, addressText, protocolText, portText, rangeText, actionText, rowText, rowsText, policyText}

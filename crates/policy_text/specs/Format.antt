@@ -14,8 +14,8 @@ use Rattle.policy.specs.declared.RowDirection.the-variants.{Only, Both}
 use Rattle.policy.specs.Policy.{PolicyRow}
 use Rattle.policy_text.specs.declared.Number.{Number}
 use Rattle.policy_text.specs.declared.Number.the-variants.{Is, Bad}
-use Rattle.policy_text.specs.declared.Parsed.{Parsed}
-use Rattle.policy_text.specs.declared.Parsed.the-variants.{NotHeader, NotEnded, TooMany, BadRow}
+use Rattle.policy_text.specs.declared.Refusal.{Refusal}
+use Rattle.policy_text.specs.declared.Refusal.the-variants.{NotHeader, NotEnded, TooMany, BadRow}
 use Rattle.policy_text.specs.Bytes.{tab, lf, dash, dot, slash, has, before, after, count, sameBytes}
 
 -- Words of the format: `any`, `opaque`, `out`, `in`, `both`, `bypass`, `discard`, `protect`.
@@ -176,23 +176,32 @@ unfoldable pub linesOf : ℕ → List ℕ → List (List ℕ)
 linesOf zero s = []
 linesOf (suc n) s = before lf s ∷ linesOf n (after lf s)
 
--- What a file is: a refusal, or its rows.
-pub data Policy : Type 0 where
-  refused : Parsed → Policy
-  rows : List PolicyRow → Policy
+-- What lines are: rows, or one of them is a bad row, with its number.
+pub data Lines : Type 0 where
+  allRows : List PolicyRow → Lines
+  badRow : ℕ → Lines
 
-abbrev pub onto : PolicyRow → Policy → Policy
-onto r (refused p) = refused p
-onto r (rows rs) = rows (r ∷ rs)
+abbrev pub onto : PolicyRow → Lines → Lines
+onto r (allRows rs) = allRows (r ∷ rs)
+onto r (badRow k) = badRow k
 
-abbrev pub ontoRow : ℕ → Option PolicyRow → Policy → Policy
-ontoRow i none rest = refused (BadRow i)
+abbrev pub ontoRow : ℕ → Option PolicyRow → Lines → Lines
+ontoRow i none rest = badRow i
 ontoRow i (some r) rest = onto r rest
 
 -- The rows of lines of which the first is row i; 'bad row: its number, first row 1', of the first bad row.
-unfoldable pub rowsOf : ℕ → List (List ℕ) → Policy
-rowsOf i [] = rows []
+unfoldable pub rowsOf : ℕ → List (List ℕ) → Lines
+rowsOf i [] = allRows []
 rowsOf i (l ∷ ls) = ontoRow i (rowOf l) (rowsOf (i + 1) ls)
+
+-- What a file is: a refusal, or its rows.
+pub data Policy : Type 0 where
+  refused : Refusal → Policy
+  rows : List PolicyRow → Policy
+
+abbrev pub policyOf : Lines → Policy
+policyOf (allRows rs) = rows rs
+policyOf (badRow i) = refused (BadRow i)
 
 -- 'A policy is checked in the order 23, 24, 21, 20': 'first nine bytes aren't the header line', 'last byte isn't LF', more rows than the
 -- limit, 'bad row'. Every LF after the header line ends a row.
@@ -200,6 +209,19 @@ unfoldable pub parsePolicy : ℕ → List ℕ → Policy
 parsePolicy limit s =
     cond (sameBytes (take 9 s) header)
     (cond (eqb (getD s (length s - 1) 0) lf)
-    (cond (leb (count lf (drop 9 s)) limit) (rowsOf 1 (linesOf (count lf (drop 9 s)) (drop 9 s))) (refused TooMany))
+    (cond (leb (count lf (drop 9 s)) limit) (policyOf (rowsOf 1 (linesOf (count lf (drop 9 s)) (drop 9 s)))) (refused TooMany))
     (refused NotEnded))
     (refused NotHeader)
+
+-- Document 01's number of a refusal, and what it carries: a bad row 'its number, first row 1'.
+abbrev pub refusalNumber : Refusal → ℕ
+refusalNumber NotHeader = 23
+refusalNumber NotEnded = 24
+refusalNumber TooMany = 21
+refusalNumber (BadRow i) = 20
+
+abbrev pub refusalCarries : Refusal → ℕ
+refusalCarries NotHeader = 0
+refusalCarries NotEnded = 0
+refusalCarries TooMany = 0
+refusalCarries (BadRow i) = i

@@ -117,15 +117,27 @@ pub fn decimal(s: &[u8], max: u16) -> Number
     Number::Is(n)
 }
 
-// What parsing a policy file answers.
-pub enum Parsed {
-    // The count of rows.
-    Rows(usize),
+// Why a file is no policy: document 01's 23, 24, 21 and 20.
+pub enum Refusal {
     NotHeader,
     NotEnded,
     TooMany,
     // With the number of the row, the first being 1.
     BadRow(usize),
+}
+
+// A policy file, to a caller with room for its rows.
+pub enum File {
+    // The count of rows.
+    Rows(usize),
+    Refused(Refusal),
+}
+
+// What parsing a policy file into a lent room answers.
+pub enum Parsed {
+    // The count of rows.
+    Rows(usize),
+    Refused(Refusal),
     // The rows are good, and the lent room is too short for them.
     NoRoom,
 }

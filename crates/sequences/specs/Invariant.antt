@@ -15,8 +15,6 @@ use Rattle.packet.specs.declared.Reading.the-variants.{Readable, Unreadable}
 use Rattle.policy.specs.Policy.{PolicyRow}
 use Rattle.policy.specs.Words.{policyRows, rowLimit}
 use Rattle.policy_text.specs.Format.{Policy, refused, rows, parsePolicy}
-use Rattle.policy_text.specs.declared.Parsed.{Parsed}
-use Rattle.policy_text.specs.declared.Parsed.the-variants.{Rows, NotHeader as NoHeader, NotEnded as NoEnd, TooMany as OverRows, BadRow as Bad, NoRoom}
 use Rattle.layout.specs.NormalRows.{bothWays}
 use Rattle.decorrelate.specs.Form.{form}
 use Rattle.decorrelate.specs.FormLaws.{form-words-rows}
@@ -24,7 +22,7 @@ use Rattle.spd_cache.specs.declared.Cache.{Cache}
 use Rattle.spd_cache.specs.Cache.{cached, emptyCache, lookedUp}
 use Rattle.spd_cache.specs.SlotLaws.{Filled, empty-filled, empty-cached, lookup-filled, lookup-mem}
 use Rattle.spd.specs.declared.Acceptance.{Acceptance}
-use Rattle.spd.specs.declared.Acceptance.the-variants.{Accepted, NotHeader, NotEnded, TooMany, BadRow, TooLarge}
+use Rattle.spd.specs.declared.Acceptance.the-variants.{Accepted, Refused, TooLarge}
 use Rattle.spd.specs.declared.Caches.{Caches}
 use Rattle.spd.specs.Spd.{spdWords, spdAfter, emptyCaches, cachesAfter, accepting, ifAccepted}
 use Rattle.spd_words.specs.Words.{addressOf, rowsOf}
@@ -58,10 +56,7 @@ cachesOr c (some rs) = emptyCaches
 if-accepted : {A : Type 0} (new old : A) (take : Option (List PolicyRow) → A) (rs : List PolicyRow) → take (some rs) ≡ new → take none ≡ old
     → (a : Acceptance) → ifAccepted a new old ≡ take (ifAccepted a (some rs) none)
 if-accepted new old take rs p q Accepted = sym p
-if-accepted new old take rs p q NotHeader = sym q
-if-accepted new old take rs p q NotEnded = sym q
-if-accepted new old take rs p q TooMany = sym q
-if-accepted new old take rs p q (BadRow i) = sym q
+if-accepted new old take rs p q (Refused r) = sym q
 if-accepted new old take rs p q (TooLarge d) = sym q
 
 spd-settled : (ws : List ℕ) (f : Policy) → spdAfter rowLimit ws f ≡ spdOr ws (acceptedRows f)
@@ -69,15 +64,7 @@ spd-settled ws (refused p) = refl
 spd-settled ws (rows rs) = if-accepted (spdWords (addressOf ws) rs) ws (spdOr ws) rs refl refl (accepting rowLimit (rows rs))
 
 caches-settled : (c : Caches) (f : Policy) → cachesAfter rowLimit c f ≡ cachesOr c (acceptedRows f)
-caches-settled c (refused p) = kept p
-  where
-    kept : (p : Parsed) → cachesAfter rowLimit c (refused p) ≡ c
-    kept (Rows n) = refl
-    kept NoHeader = refl
-    kept NoEnd = refl
-    kept OverRows = refl
-    kept (Bad i) = refl
-    kept NoRoom = refl
+caches-settled c (refused r) = refl
 caches-settled c (rows rs) = if-accepted emptyCaches c (cachesOr c) rs refl refl (accepting rowLimit (rows rs))
 
 none≢some : (rs : List PolicyRow) → _≡_ {A = Option (List PolicyRow)} none (some rs) → ⊥
@@ -89,10 +76,7 @@ accepted-within (rows qs) rs e = by (accepting rowLimit (rows qs)) refl e
   where
     by : (a : Acceptance) → accepting rowLimit (rows qs) ≡ a → ifAccepted a (some qs) none ≡ some rs → Within rs
     by Accepted g h = let same : qs ≡ rs = cc in subst Within same (accepted-exactly qs .0 g)
-    by NotHeader g h = absurd (none≢some rs h)
-    by NotEnded g h = absurd (none≢some rs h)
-    by TooMany g h = absurd (none≢some rs h)
-    by (BadRow i) g h = absurd (none≢some rs h)
+    by (Refused r) g h = absurd (none≢some rs h)
     by (TooLarge d) g h = absurd (none≢some rs h)
 
 -- The cache of a direction, when a policy with these rows is current: its slots are filled from the first on, and each row that it holds

@@ -20,7 +20,7 @@ use Rattle.decorrelate.specs.AgreeLaws.{empty-form}
 use Rattle.decorrelate.specs.FormLaws.{form-words-length, form-search}
 use Rattle.decorrelate.specs.RoomLaws.{padded-size, padded-start}
 use Rattle.spd.specs.declared.Acceptance.{Acceptance}
-use Rattle.spd.specs.declared.Acceptance.the-variants.{Accepted, NotHeader, NotEnded, TooMany, BadRow, TooLarge}
+use Rattle.spd.specs.declared.Acceptance.the-variants.{Accepted, Refused, TooLarge}
 use Rattle.spd.specs.Spd.{heldWords, spdWords, accepting, ifAccepted, spdAfter}
 use Rattle.spd_words.specs.Words.{spdSize, addressOf, rowsOf, rowsAt}
 
@@ -93,8 +93,5 @@ address-kept limit ws (rows rs) = by (accepting limit (rows rs))
   where
     by : (a : Acceptance) → addressOf (ifAccepted a (spdWords (addressOf ws) rs) ws) ≡ addressOf ws
     by Accepted = refl
-    by NotHeader = refl
-    by NotEnded = refl
-    by TooMany = refl
-    by (BadRow i) = refl
+    by (Refused r) = refl
     by (TooLarge d) = refl
