@@ -73,7 +73,7 @@ pub extern "C" fn specksonne_version() -> u64
 // The words of a gateway's policy.
 #[no_mangle]
 pub extern "C" fn specksonne_policy_words() -> usize
-    ensures { λ r. ⌜ r ≡ spdSize ⌝ }
+    ensures { λ r. ⌜ r ≡ spdSize rowLimit ⌝ }
 {
     SPD_WORDS
 }
@@ -127,7 +127,7 @@ pub extern "C" fn specksonne_fresh(
     inbound: &mut [u64; CACHE_WORDS],
     address: u32,
 )
-    ensures { λ _. ⌜ now (policy .exit) ≡ spdWords address [] ⌝ }
+    ensures { λ _. ⌜ now (policy .exit) ≡ spdWords rowLimit address [] ⌝ }
     ensures { λ _. ⌜ (now (table .exit) ≡ replicate tableSize 0) × (pairs (now (table .exit)) ≡ []) ⌝ }
     ensures { λ _. ⌜ (now (outbound .exit) ≡ cacheWords emptyCache) × (now (inbound .exit) ≡ cacheWords emptyCache) ⌝ }
 {
@@ -149,7 +149,7 @@ pub extern "C" fn specksonne_policy(
     carries: &mut u64,
 ) -> u64
     ensures { λ r. ⌜ r ≡ acceptanceNumber (accepting rowLimit (parsePolicy rowLimit (now (bytes .entry)))) ⌝ }
-    ensures { λ _. ⌜ now (policy .exit) ≡ spdAfter rowLimit (now (policy .entry)) (parsePolicy rowLimit (now (bytes .entry))) ⌝ }
+    ensures { λ _. ⌜ now (policy .exit) ≡ spdAfter rowLimit rowLimit (now (policy .entry)) (parsePolicy rowLimit (now (bytes .entry))) ⌝ }
     ensures { λ _. ⌜ now (outbound .exit) ≡ cacheWords (cachesAfter rowLimit (cachesFrom (now (outbound .entry)) (now (inbound .entry))) (parsePolicy rowLimit (now (bytes .entry))) .outbound) ⌝ }
     ensures { λ _. ⌜ now (inbound .exit) ≡ cacheWords (cachesAfter rowLimit (cachesFrom (now (outbound .entry)) (now (inbound .entry))) (parsePolicy rowLimit (now (bytes .entry))) .inbound) ⌝ }
     ensures { λ _. ⌜ now (carries .exit) ≡ acceptanceCarries (accepting rowLimit (parsePolicy rowLimit (now (bytes .entry)))) ⌝ }
@@ -370,9 +370,9 @@ pub extern "C" fn specksonne_outbound(
     bytes: &[u8],
     carries: &mut [u64; 3],
 ) -> u64
-    ensures { λ r. ⌜ r ≡ verdictNumber (outboundCached (cacheFrom (now (cache .entry))) (rowsOf (now (policy .entry)) Direction.Out) (pairs (now (table .entry))) (now (bytes .entry)) .verdict) ⌝ }
-    ensures { λ _. ⌜ now (carries .exit) ≡ carried (outboundCached (cacheFrom (now (cache .entry))) (rowsOf (now (policy .entry)) Direction.Out) (pairs (now (table .entry))) (now (bytes .entry)) .verdict) ⌝ }
-    ensures { λ _. ⌜ now (cache .exit) ≡ cacheWords (outboundCached (cacheFrom (now (cache .entry))) (rowsOf (now (policy .entry)) Direction.Out) (pairs (now (table .entry))) (now (bytes .entry)) .cache) ⌝ }
+    ensures { λ r. ⌜ r ≡ verdictNumber (outboundCached (cacheFrom (now (cache .entry))) (rowsOf rowLimit (now (policy .entry)) Direction.Out) (pairs (now (table .entry))) (now (bytes .entry)) .verdict) ⌝ }
+    ensures { λ _. ⌜ now (carries .exit) ≡ carried (outboundCached (cacheFrom (now (cache .entry))) (rowsOf rowLimit (now (policy .entry)) Direction.Out) (pairs (now (table .entry))) (now (bytes .entry)) .verdict) ⌝ }
+    ensures { λ _. ⌜ now (cache .exit) ≡ cacheWords (outboundCached (cacheFrom (now (cache .entry))) (rowsOf rowLimit (now (policy .entry)) Direction.Out) (pairs (now (table .entry))) (now (bytes .entry)) .cache) ⌝ }
 {
     let going_out = gateway_in_place::outbound(policy, table, cache, bytes);
     *carries = answer_numbers::verdict_carries(going_out);
@@ -388,9 +388,9 @@ pub extern "C" fn specksonne_inbound(
     bytes: &[u8],
     carries: &mut [u64; 3],
 ) -> u64
-    ensures { λ r. ⌜ r ≡ verdictNumber (inboundCached (cacheFrom (now (cache .entry))) (rowsOf (now (policy .entry)) Direction.In) (addressOf (now (policy .entry))) (pairs (now (table .entry))) (now (bytes .entry)) .verdict) ⌝ }
-    ensures { λ _. ⌜ now (carries .exit) ≡ carried (inboundCached (cacheFrom (now (cache .entry))) (rowsOf (now (policy .entry)) Direction.In) (addressOf (now (policy .entry))) (pairs (now (table .entry))) (now (bytes .entry)) .verdict) ⌝ }
-    ensures { λ _. ⌜ now (cache .exit) ≡ cacheWords (inboundCached (cacheFrom (now (cache .entry))) (rowsOf (now (policy .entry)) Direction.In) (addressOf (now (policy .entry))) (pairs (now (table .entry))) (now (bytes .entry)) .cache) ⌝ }
+    ensures { λ r. ⌜ r ≡ verdictNumber (inboundCached (cacheFrom (now (cache .entry))) (rowsOf rowLimit (now (policy .entry)) Direction.In) (addressOf (now (policy .entry))) (pairs (now (table .entry))) (now (bytes .entry)) .verdict) ⌝ }
+    ensures { λ _. ⌜ now (carries .exit) ≡ carried (inboundCached (cacheFrom (now (cache .entry))) (rowsOf rowLimit (now (policy .entry)) Direction.In) (addressOf (now (policy .entry))) (pairs (now (table .entry))) (now (bytes .entry)) .verdict) ⌝ }
+    ensures { λ _. ⌜ now (cache .exit) ≡ cacheWords (inboundCached (cacheFrom (now (cache .entry))) (rowsOf rowLimit (now (policy .entry)) Direction.In) (addressOf (now (policy .entry))) (pairs (now (table .entry))) (now (bytes .entry)) .cache) ⌝ }
 {
     let coming_in = gateway_in_place::inbound(policy, table, cache, bytes);
     *carries = answer_numbers::verdict_carries(coming_in);
