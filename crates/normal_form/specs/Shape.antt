@@ -9,8 +9,8 @@ use mathlib.Core.Option.{some, Option·none-ne-some}
 use mathlib.Core.List.{List, [], _∷_, _++_, map, List·Memᴰ, List·Memᴰ·head, List·Memᴰ·tail, List·Memᴰ·not-nil, List·Memᴰ·cases-cons, List·Memᴰ·append-cases, List·Memᴰ·eq-of-singleton, Memᴰ·of-map}
 use mathlib.Core.Logic.{_≢_, _↔_, _⊎_, inl, inr, ⊎-elim}
 use lib.ListN.{getElem?, length, length-append, length-map}
-use Rattle.selectors.specs.Range.{Range}
-use Rattle.normal_form.specs.Search.{Row, Combination, holds, find}
+use Rattle.selectors.specs.Range.{Range, holds}
+use Rattle.normal_form.specs.Search.{Row, Combination, find}
 use Rattle.normal_form.specs.NormalForm.{Intervals, start, _▸_, under, rowsOf, normalForm}
 use Rattle.selectors.specs.RangeLaws.{contains-between}
 use Rattle.normal_form.specs.SearchLaws.{holds-cons, find-first, find-skip, find-mem}

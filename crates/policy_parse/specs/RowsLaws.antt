@@ -12,7 +12,7 @@ use Rattle.policy_fields.specs.declared.RowText.the-variants.{Row as RowIs, Bad
 use Rattle.policy_text.specs.declared.Parsed.the-variants.{BadRow}
 use Rattle.policy_text.specs.Bytes.{lf, before, after}
 use Rattle.policy_text.specs.Format.{rowOf, linesOf, Policy, refused, rows, onto, rowsOf}
-use Rattle.policy_text.specs.Stores.{sets-more}
+use Rattle.selectors.specs.StoresLaws.{sets-more}
 use Rattle.policy_text.specs.RowWords.{wordsOfRow, wordsOf}
 use Rattle.policy_fields.specs.Answers.{entryOf, textWords}
 use Rattle.policy_fields.specs.EntryLaws.{bad-none, entry-some, line-words}

@@ -23,7 +23,7 @@ use Rattle.policy.specs.Words.{actionOf, rowAt, rowsFrom}
 use Rattle.policy_text.specs.Bytes.{dash}
 use Rattle.policy_text.specs.BytesLaws.{left-more, left-none}
 use Rattle.policy_text.specs.Format.{any, opaqueWord}
-use Rattle.policy_text.specs.Stores.{sets-more}
+use Rattle.selectors.specs.StoresLaws.{sets-more}
 use Rattle.policy_text.specs.Print.{digitsOf, decimalText, lower, dotted, addressText, protocolText, portText, rangeText, rangesText, directionText, actionText, rowText, lineText, rowsText, toward}
 use Rattle.policy_text.specs.PrintLaws.{action-most, ranges-most}
 use Rattle.policy_print.specs.declared.Printed.the-variants.{Bytes, NoRoom}

@@ -3,7 +3,7 @@
 ghost use mathlib.Core.Path.{_≡_};
 ghost use mathlib.Core.List.{map};
 ghost use Rattle.selectors.specs.Value.{combination};
-ghost use Rattle.normal_form.specs.Search.{holds};
+ghost use Rattle.selectors.specs.Range.{holds};
 ghost use Rattle.policy.specs.Policy.{matches, orderedSearch};
 ghost use Rattle.row_records.specs.Records.{rangesOf, rowOf};
 use policy::Action;

@@ -8,7 +8,7 @@ use lib.ListN.{length-set}
 use lib.Seq.{sets}
 use Rattle.selectors.specs.declared.Value.{Value}
 use Rattle.policy_fields.specs.Answers.{valueWords}
-use Rattle.policy_text.specs.Stores.{sets-more}
+use Rattle.selectors.specs.StoresLaws.{sets-more}
 use borrow.Author.Needs.{needs}
 use Rattle.policy_parse.proofs.put_entry.Statement.{statement}
 use Rattle.policy_parse.proofs.put_entry.Tie as tie

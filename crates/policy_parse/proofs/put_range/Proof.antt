@@ -1,6 +1,6 @@
 -- `policy_parse::put_range` meets its contract: two runs of stores. Assumes nothing.
 use mathlib.Core.Path.{_∙_}
-use Rattle.policy_text.specs.Stores.{sets-more}
+use Rattle.selectors.specs.StoresLaws.{sets-more}
 use Rattle.policy_fields.specs.Answers.{valueWords}
 use borrow.Author.Needs.{needs}
 use Rattle.policy_parse.proofs.put_range.Statement.{statement}
