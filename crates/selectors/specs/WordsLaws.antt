@@ -95,6 +95,10 @@ ranges-put ws at r =
 pub ends-are : (e : Ends) (low high : Value) → e .low ≡ low → e .high ≡ high → e ≡ record { low = low; high = high }
 ends-are e low high p q = λ k. record { low = p k; high = q k }
 
+pub ranges-are : (r q : Ranges) → r .local ≡ q .local → r .remote ≡ q .remote → r .protocol ≡ q .protocol → r .«local_port» ≡ q .«local_port»
+    → r .«remote_port» ≡ q .«remote_port» → r ≡ q
+ranges-are r q l m p x y = λ k. record { local = l k; remote = m k; protocol = p k; «local_port» = x k; «remote_port» = y k }
+
 -- A range by its ends.
 pub ends-hold : (low high : Value) (ws : List ℕ) (i v : ℕ) → low ≡ valueAt ws i → high ≡ valueAt ws (i + 2) → contains (fromTo low high) v ≡ contains (rangeAt ws i) v
 ends-hold low high ws i v p q = rw (p, q)
