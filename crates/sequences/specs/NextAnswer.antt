@@ -4,11 +4,11 @@ use mathlib.Core.Path.{_≡_, refl, sym, ap, _∙_, subst}
 use mathlib.Core.Bool.{Bool, true, false, cond}
 use mathlib.Core.List.{List, [], _∷_, map, List·Memᴰ, List·Memᴰ·head, List·Memᴰ·tail, List·Memᴰ·cases-cons, List·Memᴰ·not-nil}
 use mathlib.Core.Logic.{_⊎_, inl, inr, ⊎-elim}
-use Rattle.selectors.specs.Range.{ipv4Sizes}
+use Rattle.selectors.specs.Range.{ipv4Sizes, holds}
 use Rattle.selectors.specs.Value.{number}
 use Rattle.selectors.specs.declared.Direction.{Direction}
 use Rattle.selectors.specs.declared.Direction.the-variants.{Out, In}
-use Rattle.normal_form.specs.Search.{Row as LeafRow, Combination, holds}
+use Rattle.normal_form.specs.Search.{Row as LeafRow, Combination}
 use Rattle.normal_form.specs.Shape.{normal-form-row}
 use Rattle.packet.specs.Read.{readPacket, readTrigger, triggerOf}
 use Rattle.packet.specs.ReadLaws.{Bytes, packet-shows, read-in-fields}

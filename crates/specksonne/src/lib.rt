@@ -5,8 +5,7 @@ ghost use lib.ListN.{length, replicate};
 ghost use Rattle.selectors.specs.Value.{combination};
 ghost use Rattle.packet.specs.Read.{readPacket};
 ghost use Rattle.policy.specs.Policy.{orderedSearch, matchFrom};
-ghost use Rattle.policy.specs.Words.{policyRows, rowWords, rowLimit};
-ghost use Rattle.row_records.specs.Records.{rowOf};
+ghost use Rattle.policy.specs.Words.{policyRows, rowWords, rowLimit, rowOf};
 ghost use Rattle.policy_text.specs.Format.{parsePolicy};
 ghost use Rattle.policy_parse.specs.Parsing.{parsedIn, parsedRoom, parsedNumber};
 ghost use Rattle.policy_print.specs.Printing.{printed, printedIn, printedRoom, printedNumber};
@@ -27,7 +26,7 @@ ghost use Rattle.specksonne.specs.Sizes.{abiNumber, versionNumber, table
 use packet::Reading;
 use policy::LIMIT;
 use policy::ROW_WORDS;
-use row_records::Row;
+use policy::Row;
 use sad::PLACE_WORDS;
 use sad::PLACES;
 use selectors::Direction;
