@@ -11,9 +11,9 @@ use lib.ListN.{length, getD, set, take, length-set}
 use lib.Seq.{getD-set-same, getD-set-other, length-take-le, getD-take}
 use borrow.Author.Count.{below-more}
 use borrow.Author.Tests.{eqb-true}
-use Rattle.selectors.specs.Range.{contains}
+use Rattle.selectors.specs.Range.{contains, holds}
 use Rattle.selectors.specs.Words.{rangeAt}
-use Rattle.normal_form.specs.Search.{Row, holds, find}
+use Rattle.normal_form.specs.Search.{Row, find}
 use Rattle.policy.specs.Words.{rowWords, rowLimit}
 use Rattle.cover.specs.Boxes.{rangesBehind, RowsApart}
 use Rattle.agree.specs.Sides.{rowBehind, rangeOf, Takes, Cutting}

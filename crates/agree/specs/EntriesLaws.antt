@@ -12,11 +12,11 @@ use lib.Dec.{lit<, lit≤}
 use lib.ListN.{length, getD, set, take}
 use lib.Seq.{getD-set-same, getD-set-other, take-suc}
 use borrow.Author.Tests.{lt-ltb, le-ltb, eq-eqb, ne-eqb}
-use Rattle.selectors.specs.Range.{Range, contains}
+use Rattle.selectors.specs.Range.{Range, contains, holds}
 use Rattle.selectors.specs.Ranges.{fromTo}
 use Rattle.selectors.specs.Words.{valueAt, rangeAt}
 use Rattle.selectors.specs.declared.Value.{Value}
-use Rattle.normal_form.specs.Search.{Row, holds, find}
+use Rattle.normal_form.specs.Search.{Row, find}
 use Rattle.policy.specs.Words.{rowWords, rowLimit}
 use Rattle.cover.specs.Boxes.{rowOf, tableOf, codeHolds}
 use Rattle.agree.specs.Sides.{rowBehind, Alike, those, onSide, codeAction, Sides, sides, onAt, actionAt, holdsAt, on, firstOf, sideAction, Agreed, sidesOf, sideRows, SideRows, Next}

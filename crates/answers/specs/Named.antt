@@ -4,7 +4,7 @@ use mathlib.Core.Path.{_≡_, refl, sym, _∙_}
 use mathlib.Core.Bool.{Bool, true, cond, false≢true}
 use mathlib.Core.List.{List, [], _∷_, List·Memᴰ, List·Memᴰ·head, List·Memᴰ·tail, List·Memᴰ·not-nil, List·Memᴰ·cases-cons}
 use mathlib.Core.Logic.{_↔_, _⊎_, inl, inr}
-use Rattle.normal_form.specs.Search.{holds}
+use Rattle.selectors.specs.Range.{holds}
 use Rattle.sad.specs.Pairs.{Pair, named, live, fitting}
 use Rattle.answers.specs.Decides.{Decides, holding, failing, decides-and, decides-eq}
 

@@ -11,13 +11,12 @@ use lib.Dec.{ltb}
 use lib.ListN.{length, getD, set, length-set, length-drop}
 use lib.Seq.{getD-set-same, getD-set-other, getD-drop}
 use borrow.Author.Tests.{ltb-true, ltb-false}
-use Rattle.selectors.specs.Range.{Range, range, contains}
+use Rattle.selectors.specs.Range.{Range, range, contains, holds}
 use Rattle.selectors.specs.RangeLaws.{both-true, contains-in, contains-below, contains-above, contains-between}
 use Rattle.selectors.specs.Ranges.{fromTo}
 use Rattle.selectors.specs.Value.{number}
 use Rattle.selectors.specs.Words.{valueAt, rangeAt, rangesAt}
 use Rattle.selectors.specs.declared.Value.{Value}
-use Rattle.normal_form.specs.Search.{holds}
 use Rattle.policy.specs.Words.{rowWords}
 use Rattle.cover.specs.Boxes.{rangesBehind, InBox, rowOf, tableOf, codeHolds, Lowered, Raised, Part, Common, Apart, Covers, RowsApart, RangeApart, RangeCovers, FieldStand, BoxStand, Covered, Surveyed}
 use Rattle.cover.specs.declared.Stand.{Stand}

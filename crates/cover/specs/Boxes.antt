@@ -6,9 +6,8 @@ use mathlib.Core.Bool.{Bool, true, false, not, cond}
 use mathlib.Core.List.{List}
 use lib.Dec.{eqb, ltb}
 use lib.ListN.{getD, drop}
-use Rattle.selectors.specs.Range.{Range, contains}
+use Rattle.selectors.specs.Range.{Range, contains, holds}
 use Rattle.selectors.specs.Words.{rangesAt}
-use Rattle.normal_form.specs.Search.{holds}
 use Rattle.policy.specs.Words.{rowWords}
 use Rattle.cover.specs.declared.Stand.{Stand}
 

@@ -8,12 +8,12 @@ use mathlib.Core.List.{List, [], _∷_, _++_, map}
 use lib.ListN.{length, getD, drop, length-append, take}
 use lib.Seq.{drop-nil, length-take-le, getD-take}
 use borrow.Author.Tests.{eq-eqb}
-use Rattle.selectors.specs.Range.{Range, range, contains}
+use Rattle.selectors.specs.Range.{Range, range, contains, holds}
 use Rattle.selectors.specs.RangeLaws.{contains-in}
 use Rattle.selectors.specs.Value.{number}
 use Rattle.selectors.specs.Words.{valueAt}
 use Rattle.selectors.specs.declared.Direction.{Direction}
-use Rattle.normal_form.specs.Search.{Combination, holds, find}
+use Rattle.normal_form.specs.Search.{Combination, find}
 use Rattle.normal_form.specs.Laws.{normal-form-ext}
 use Rattle.normal_form.specs.Shape.{normal-form-empty}
 use Rattle.policy.specs.Policy.{appliesTo, matches, orderedSearch}

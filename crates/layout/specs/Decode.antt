@@ -3,11 +3,11 @@ use Prim.Native.Nat.{ℕ, zero, suc, _+_, _*_}
 use mathlib.Core.Bool.{Bool, _&&_}
 use mathlib.Core.List.{List, [], _∷_}
 use lib.ListN.{getD}
-use Rattle.selectors.specs.Range.{Range}
+use Rattle.selectors.specs.Range.{Range, holds}
 use Rattle.selectors.specs.Value.{number}
 use Rattle.selectors.specs.Words.{valueAt}
 use Rattle.selectors.specs.declared.Direction.{Direction}
-use Rattle.normal_form.specs.Search.{Row, row, holds}
+use Rattle.normal_form.specs.Search.{Row, row}
 use Rattle.policy.specs.Policy.{appliesTo}
 use Rattle.policy.specs.Words.{directionOf, rowWords}
 use Rattle.agree.specs.Sides.{rangeOf}

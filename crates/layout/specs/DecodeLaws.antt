@@ -8,13 +8,13 @@ use mathlib.Core.List.{List, _∷_, _++_}
 use lib.Dec.{eqb}
 use lib.ListN.{length, getD}
 use borrow.Author.Tests.{eq-eqb}
-use Rattle.selectors.specs.Range.{Range, contains, sameRange}
+use Rattle.selectors.specs.Range.{Range, contains, sameRange, holds}
 use Rattle.selectors.specs.RangeLaws.{sameRange-true}
 use Rattle.selectors.specs.Value.{number}
 use Rattle.selectors.specs.Words.{valueAt, rangeAt, rangesAt}
 use Rattle.selectors.specs.declared.Direction.{Direction}
 use Rattle.selectors.specs.declared.Value.{Value}
-use Rattle.normal_form.specs.Search.{row, holds}
+use Rattle.normal_form.specs.Search.{row}
 use Rattle.policy.specs.Policy.{matches, orderedSearch, matchFrom}
 use Rattle.policy.specs.Words.{actionWord, rowAt, policyRows, rowWords}
 use Rattle.policy.specs.WordsLaws.{action-word, actionFound, search-match}

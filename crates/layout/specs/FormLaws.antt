@@ -8,11 +8,11 @@ use mathlib.Core.Logic.{inl, ⊎-elim}
 use lib.ListN.{length, getD, set, length-set}
 use lib.Seq.{getD-set-same, getD-set-other}
 use borrow.Author.Tests.{eq-eqb, ne-eqb}
-use Rattle.selectors.specs.Range.{Range, contains}
+use Rattle.selectors.specs.Range.{Range, contains, holds}
 use Rattle.selectors.specs.Value.{number}
 use Rattle.selectors.specs.declared.Direction.{Direction}
 use Rattle.selectors.specs.declared.Value.{Value}
-use Rattle.normal_form.specs.Search.{row, holds}
+use Rattle.normal_form.specs.Search.{row}
 use Rattle.normal_form.specs.NormalForm.{rowsOf, runs, normalForm}
 use Rattle.normal_form.specs.RunsLaws.{runs-ext}
 use Rattle.normal_form.specs.Laws.{leaf-cases, normal-form-ext}

@@ -8,11 +8,10 @@ use mathlib.Core.Bool.{Bool, true, false, cond, _&&_, and-true, and-assoc}
 use mathlib.Core.List.{List, [], _∷_, _++_}
 use lib.ListN.{length, getD, set, drop, length-set}
 use lib.Seq.{length-take-le, getD-take, drop-cons}
-use Rattle.selectors.specs.Range.{contains}
+use Rattle.selectors.specs.Range.{contains, holds}
 use Rattle.selectors.specs.Value.{number}
 use Rattle.selectors.specs.declared.Direction.{Direction}
 use Rattle.selectors.specs.declared.Value.{Value}
-use Rattle.normal_form.specs.Search.{holds}
 use Rattle.policy.specs.Policy.{appliesTo, orderedSearch}
 use Rattle.policy.specs.Words.{actionWord, actionOf, directionOf, rowAt, rowsFrom, policyRows, rowWords, rowLimit}
 use Rattle.policy.specs.WordsLaws.{action-word}

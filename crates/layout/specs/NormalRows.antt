@@ -6,7 +6,8 @@ use mathlib.Core.Bool.{cond}
 use mathlib.Core.List.{List, [], _∷_, map}
 use lib.ListN.{getD}
 use Rattle.selectors.specs.declared.Direction.{Direction}
-use Rattle.normal_form.specs.Search.{Row, Combination, holds, find}
+use Rattle.selectors.specs.Range.{holds}
+use Rattle.normal_form.specs.Search.{Row, Combination, find}
 use Rattle.normal_form.specs.Laws.{search-normal-form}
 use Rattle.normal_form.specs.MapLaws.{mapLeaf}
 use Rattle.policy.specs.Action.{action-≟}

@@ -9,9 +9,9 @@ use mathlib.Core.List.{List, [], _∷_}
 use mathlib.Core.Logic.{_⊎_, inl, inr, ⊎-elim}
 use lib.Dec.{leb, ltb, eqb}
 use borrow.Author.Tests.{ltb-true, eqb-true, le-leb, lt-leb}
-use Rattle.selectors.specs.Range.{Range, contains}
+use Rattle.selectors.specs.Range.{Range, contains, holds}
 use Rattle.selectors.specs.RangeLaws.{both-true}
-use Rattle.normal_form.specs.Search.{Row, row, holds, find}
+use Rattle.normal_form.specs.Search.{Row, row, find}
 use Rattle.normal_form.specs.NormalForm.{start, rowsOf, runs, normalForm}
 use Rattle.normal_form.specs.RunsLaws.{runs-ext}
 use Rattle.normal_form.specs.Loop.{jump, Cuts, jump-runs}

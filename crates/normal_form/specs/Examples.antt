@@ -2,8 +2,8 @@
 use native.Mathlib.Decide.{ℕ-discrete}
 use mathlib.Core.Path.{_≡_, refl}
 use mathlib.Core.List.{[], _∷_}
-use Rattle.selectors.specs.Range.{range, contains}
-use Rattle.normal_form.specs.Search.{row, holds, find}
+use Rattle.selectors.specs.Range.{range, contains, holds}
+use Rattle.normal_form.specs.Search.{row, find}
 use Rattle.normal_form.specs.Same.{list-≟, range-≟, row-≟}
 use Rattle.normal_form.specs.NormalForm.{rowsOf, push, runs, normalForm}
 

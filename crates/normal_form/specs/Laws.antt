@@ -4,7 +4,8 @@ use Prim.Native.Nat.{ℕ}
 use mathlib.Core.Path.{_≡_, refl, sym, _∙_, ap}
 use mathlib.Core.List.{List, [], _∷_}
 use mathlib.Core.Logic.{_≢_, _↔_, _⊎_, inl, inr, ite, ⊎-elim}
-use Rattle.normal_form.specs.Search.{row, Combination, holds, find}
+use Rattle.selectors.specs.Range.{holds}
+use Rattle.normal_form.specs.Search.{row, Combination, find}
 use Rattle.normal_form.specs.NormalForm.{rowsOf, normalForm}
 use Rattle.normal_form.specs.Layout.{Alike}
 use Rattle.normal_form.specs.RunsLaws.{find-rows, runs-ext, runs-longest}

@@ -1,9 +1,9 @@
 -- Rows, combinations and the ordered search, over any fields and any leaf. Assumes nothing: these are definitions.
 -- A field is given by its size S: its values are 0 to S - 1. The fields are a list of sizes.
 use Prim.Native.Nat.{ℕ, _<_}
-use mathlib.Core.Bool.{Bool, true, false, cond, _&&_}
+use mathlib.Core.Bool.{cond}
 use mathlib.Core.List.{List, [], _∷_}
-use Rattle.selectors.specs.Range.{Range, contains}
+use Rattle.selectors.specs.Range.{Range, holds}
 
 -- A combination (document 01): one value for each field, each below the field's size.
 unfoldable pub Combination : List ℕ → List ℕ → Type 0
@@ -19,13 +19,6 @@ pub record Row (A : Type 0) : Type 0 where
 
 abbrev pub row : {A : Type 0} → List Range → A → Row A
 row ranges leaf = record { ranges = ranges; leaf = leaf }
-
--- As many ranges as values, and each range holds its value.
-unfoldable pub holds : List Range → List ℕ → Bool
-holds [] [] = true
-holds [] (v ∷ vs) = false
-holds (r ∷ rs) [] = false
-holds (r ∷ rs) (v ∷ vs) = contains r v && holds rs vs
 
 -- The leaf of the first row, top down, whose ranges all hold the values; `none` where there is no such row.
 unfoldable pub find : {A : Type 0} → A → List (Row A) → List ℕ → A

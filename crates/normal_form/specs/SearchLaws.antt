@@ -4,9 +4,9 @@ use mathlib.Core.Path.{_≡_, refl, ap}
 use mathlib.Core.Bool.{Bool, true, false, cond}
 use mathlib.Core.List.{List, [], _∷_, _++_, map, List·Memᴰ, List·Memᴰ·head, List·Memᴰ·tail}
 use mathlib.Core.Logic.{_≢_}
-use Rattle.selectors.specs.Range.{Range, range, contains}
+use Rattle.selectors.specs.Range.{Range, range, contains, holds}
 use Rattle.selectors.specs.RangeLaws.{both-true}
-use Rattle.normal_form.specs.Search.{Row, holds, find}
+use Rattle.normal_form.specs.Search.{Row, find}
 use Rattle.normal_form.specs.NormalForm.{under}
 
 -- Ranges that hold values: the first holds the first value, and the rest hold the rest.

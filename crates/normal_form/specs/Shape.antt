@@ -9,8 +9,8 @@ use mathlib.Core.Option.{some, Option·none-ne-some}
 use mathlib.Core.List.{List, [], _∷_, _++_, map, List·Memᴰ, List·Memᴰ·head, List·Memᴰ·tail, List·Memᴰ·not-nil, List·Memᴰ·cases-cons, List·Memᴰ·append-cases, List·Memᴰ·eq-of-singleton, Memᴰ·of-map}
 use mathlib.Core.Logic.{_≢_, _↔_, _⊎_, inl, inr, ⊎-elim}
 use lib.ListN.{getElem?, length, length-append, length-map}
-use Rattle.selectors.specs.Range.{Range}
-use Rattle.normal_form.specs.Search.{Row, Combination, holds, find}
+use Rattle.selectors.specs.Range.{Range, holds}
+use Rattle.normal_form.specs.Search.{Row, Combination, find}
 use Rattle.normal_form.specs.NormalForm.{Intervals, start, _▸_, under, rowsOf, normalForm}
 use Rattle.selectors.specs.RangeLaws.{contains-between}
 use Rattle.normal_form.specs.SearchLaws.{holds-cons, find-first, find-skip, find-mem}
@@ -39,6 +39,14 @@ Sorted {A} (r ∷ rs) = ((q : Row A) → List·Memᴰ q rs → Before (r .ranges
 unfoldable pub combinations : List ℕ → ℕ
 combinations [] = 1
 combinations (S ∷ Ss) = S * combinations Ss
+
+-- What fits fields has a range for each.
+pub fits-length : (sizes : List ℕ) (rs : List Range) → Fits sizes rs → length rs ≡ length sizes
+unfolding Fits
+fits-length [] [] f = refl
+fits-length [] (r ∷ rs) f = absurd f
+fits-length (S ∷ Ss) [] f = absurd f
+fits-length (S ∷ Ss) (r ∷ rs) f = ap suc (fits-length Ss rs (f .2))
 
 -- What a row that fits holds is a combination.
 pub fits-combination : (sizes : List ℕ) (rs : List Range) (vs : List ℕ) → Fits sizes rs → holds rs vs ≡ true → Combination sizes vs

@@ -4,10 +4,10 @@ use native.Mathlib.Decide.{ℕ-discrete}
 use mathlib.Core.Path.{_≡_, refl, sym, _∙_}
 use mathlib.Core.Bool.{true}
 use mathlib.Core.List.{List, [], _∷_}
-use Rattle.selectors.specs.Range.{Range, range, full, contains, addressSize, protocolSize, portSize, ipv4Sizes}
+use Rattle.selectors.specs.Range.{Range, range, full, contains, addressSize, protocolSize, portSize, ipv4Sizes, holds}
 use Rattle.selectors.specs.declared.Direction.{Direction}
 use Rattle.selectors.specs.declared.Direction.the-variants.{Out, In}
-use Rattle.normal_form.specs.Search.{Row, row, holds, find}
+use Rattle.normal_form.specs.Search.{Row, row, find}
 use Rattle.normal_form.specs.Same.{list-≟, range-≟, row-≟}
 use Rattle.normal_form.specs.NormalForm.{rowsOf, push, normalForm}
 use Rattle.normal_form.specs.Loop.{jump}

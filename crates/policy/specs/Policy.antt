@@ -2,10 +2,10 @@
 use Prim.Native.Nat.{ℕ, suc}
 use mathlib.Core.Bool.{Bool, true, false, cond, _&&_}
 use mathlib.Core.List.{List, [], _∷_, map}
-use Rattle.selectors.specs.Range.{Range}
+use Rattle.selectors.specs.Range.{Range, holds}
 use Rattle.selectors.specs.declared.Direction.{Direction}
 use Rattle.selectors.specs.declared.Direction.the-variants.{Out, In}
-use Rattle.normal_form.specs.Search.{Row as LeafRow, holds}
+use Rattle.normal_form.specs.Search.{Row as LeafRow}
 use Rattle.normal_form.specs.NormalForm.{normalForm}
 use Rattle.policy.specs.declared.Action.{Action}
 use Rattle.policy.specs.declared.Action.the-variants.{Discard}

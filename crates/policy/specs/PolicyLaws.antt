@@ -6,7 +6,8 @@ use mathlib.Core.List.{List, [], _∷_}
 use mathlib.Core.Logic.{_↔_}
 use Rattle.selectors.specs.declared.Direction.{Direction}
 use Rattle.selectors.specs.declared.Direction.the-variants.{Out, In}
-use Rattle.normal_form.specs.Search.{Row, row, Combination, holds, find}
+use Rattle.selectors.specs.Range.{holds}
+use Rattle.normal_form.specs.Search.{Row, row, Combination, find}
 use Rattle.normal_form.specs.Laws.{search-normal-form, normal-form-ext, normal-form-canonical}
 use Rattle.policy.specs.declared.Action.{Action}
 use Rattle.policy.specs.declared.Action.the-variants.{Discard}

@@ -8,19 +8,13 @@ use mathlib.Core.Bool.{Bool, true, false, cond}
 use mathlib.Core.List.{List, _∷_}
 use lib.ListN.{getD}
 use borrow.Author.Tests.{ne-eqb}
-use Rattle.selectors.specs.Range.{contains}
-use Rattle.selectors.specs.Ranges.{fromTo}
-use Rattle.selectors.specs.Words.{valueAt, rangeAt}
 use Rattle.selectors.specs.declared.Direction.{Direction}
-use Rattle.selectors.specs.Value.{combination}
-use Rattle.selectors.specs.declared.Selectors.{Selectors}
-use Rattle.selectors.specs.declared.Value.{Value}
 use Rattle.policy.specs.Policy.{PolicyRow, matches, orderedSearch, matchFrom}
 use Rattle.policy.specs.declared.Found.{Found}
 use Rattle.policy.specs.declared.Found.the-variants.{Row, Nothing}
 use Rattle.policy.specs.declared.Action.{Action}
 use Rattle.policy.specs.declared.Action.the-variants.{Discard, Bypass, Protect}
-use Rattle.policy.specs.Words.{actionOf, actionWord, rowAt, rowsFrom, rowWords, selectorWords, valuesOf}
+use Rattle.policy.specs.Words.{actionOf, actionWord, rowAt, rowsFrom, rowWords}
 
 -- Actions and words are the same thing twice.
 pub action-word : (n : ℕ) → actionWord (actionOf n) ≡ n
@@ -37,11 +31,6 @@ word-action Bypass = refl
 word-action (Protect n) =
     let e : n + 2 - 2 ≡ n = omega arith in
     rw (ne-eqb (n + 2) 0 (λ h. omega arith), ne-eqb (n + 2) 1 (λ h. omega arith), e)
-
--- A range made of the values at its words is the range at those words.
-pub values-hold : (ws : List ℕ) (at v : ℕ) (low high : Value) → low ≡ valueAt ws at → high ≡ valueAt ws (at + 2)
-    → contains (fromTo low high) v ≡ contains (rangeAt ws at) v
-values-hold ws at v low high p q = rw (p, q)
 
 -- The first of the rows that are left, and the rows after it.
 rowsFrom-next : (ws : List ℕ) (i count : ℕ) → i < count
@@ -99,8 +88,3 @@ module _ (d : Direction) (ws : List ℕ) (vs : List ℕ) where
           → (matchFrom (suc i) d (rowsFrom ws (suc i) n) vs ≡ Row j → j < suc i + n) → j < i + suc n
       by true h ih = let k : i ≡ j = row-place i j (rw h at e) in omega arith
       by false h ih = omega (arith, ih (rw h at e))
-
--- The words of selectors are their values.
-pub selector-values : (s : Selectors) → valuesOf (selectorWords s) ≡ combination s
-unfolding valueAt selectorWords
-selector-values s = refl

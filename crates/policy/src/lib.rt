@@ -2,18 +2,26 @@
 ghost use mathlib.Core.Path.{_≡_};
 ghost use Prim.Native.Nat.{_+_, _≤_};
 ghost use lib.ListN.{length};
-ghost use Rattle.selectors.specs.Value.{number, combination};
-ghost use Rattle.selectors.specs.Range.{contains};
-ghost use Rattle.selectors.specs.Words.{valueAt, rangeAt, rangesAt};
-ghost use Rattle.normal_form.specs.Search.{holds};
+ghost use lib.Seq.{sets};
+ghost use Rattle.selectors.specs.Value.{combination};
+ghost use Rattle.selectors.specs.Words.{valuesOf};
 ghost use Rattle.policy.specs.Policy.{appliesTo, matches, matchFrom, orderedSearch};
-ghost use Rattle.policy.specs.Words.{directionOf, actionOf, rowAt, policyRows, selectorWords, valuesOf};
+ghost use Rattle.policy.specs.Words.{directionOf, actionOf, rowWords, rowAt, policyRows, endsOfRecord, wordsOfRecord};
 use selectors::AddressRange;
 use selectors::Direction;
+use selectors::Ends;
 use selectors::PortRange;
 use selectors::ProtocolRange;
+use selectors::Ranges;
 use selectors::Selectors;
 use selectors::Value;
+use selectors::words::FIELDS;
+use selectors::words::RANGES_WORDS;
+use selectors::words::SELECTOR_WORDS;
+use selectors::words::put_ranges;
+use selectors::words::put_word;
+use selectors::words::ranges_hold;
+use selectors::words::selector_words;
 
 pub enum Action {
     Discard,
@@ -28,8 +36,20 @@ pub enum RowDirection {
     Both,
 }
 
-// The words of a row: its direction, its action, and for each of five fields low and high, of two words each.
-pub const ROW_WORDS: usize = 22;
+// A row as a record: its words, each with the meaning that it has in a flat list of words.
+#[repr(C)]
+pub struct Row {
+    pub direction: u64,
+    pub action: u64,
+    pub local: AddressRange,
+    pub remote: AddressRange,
+    pub protocol: ProtocolRange,
+    pub local_port: PortRange,
+    pub remote_port: PortRange,
+}
+
+// The words of a row: its direction, its action, and a range for each field.
+pub const ROW_WORDS: usize = 2 + RANGES_WORDS;
 
 // The most rows that a policy and a normal form may have (document 01, 21 and 22), and their words.
 pub const LIMIT: usize = 256;
@@ -82,101 +102,20 @@ impl RowDirection {
     }
 }
 
-fn value_at(rows: &[u64], at: usize) -> Value
-    requires { ⌜ at + 2 ≤ length (now rows) ⌝ }
-    ensures { λ r. ⌜ r ≡ valueAt (now (rows .entry)) at ⌝ }
-{
-    Value {
-        upper: rows[at],
-        lower: rows[at + 1],
-    }
-}
-
-// Whether the range at a word holds a value: an address, a protocol, a port.
-fn address_holds(rows: &[u64], at: usize, value: Value) -> bool
-    requires { ⌜ at + 4 ≤ length (now rows) ⌝ }
-    ensures { λ r. ⌜ r ≡ contains (rangeAt (now (rows .entry)) at) (number value) ⌝ }
-{
-    let low = value_at(rows, at);
-    let high = value_at(rows, at + 2);
-    AddressRange { low, high }.holds(value)
-}
-
-fn protocol_holds(rows: &[u64], at: usize, value: Value) -> bool
-    requires { ⌜ at + 4 ≤ length (now rows) ⌝ }
-    ensures { λ r. ⌜ r ≡ contains (rangeAt (now (rows .entry)) at) (number value) ⌝ }
-{
-    let low = value_at(rows, at);
-    let high = value_at(rows, at + 2);
-    ProtocolRange { low, high }.holds(value)
-}
-
-fn port_holds(rows: &[u64], at: usize, value: Value) -> bool
-    requires { ⌜ at + 4 ≤ length (now rows) ⌝ }
-    ensures { λ r. ⌜ r ≡ contains (rangeAt (now (rows .entry)) at) (number value) ⌝ }
-{
-    let low = value_at(rows, at);
-    let high = value_at(rows, at + 2);
-    PortRange { low, high }.holds(value)
-}
-
-// Five values as words, two for each, the upper first: lent to the test of each row, they are not copied.
-pub fn selector_words(selectors: Selectors) -> [u64; 10]
-    ensures { λ r. ⌜ r ≡ selectorWords selectors ⌝ }
-{
-    [
-        selectors.local.upper,
-        selectors.local.lower,
-        selectors.remote.upper,
-        selectors.remote.lower,
-        selectors.protocol.upper,
-        selectors.protocol.lower,
-        selectors.local_port.upper,
-        selectors.local_port.lower,
-        selectors.remote_port.upper,
-        selectors.remote_port.lower,
-    ]
-}
-
-fn selector_at(values: &[u64; 10], at: usize) -> Value
-    requires { ⌜ at + 2 ≤ 10 ⌝ }
-    ensures { λ r. ⌜ r ≡ valueAt (now (values .entry)) at ⌝ }
-{
-    Value {
-        upper: values[at],
-        lower: values[at + 1],
-    }
-}
-
-// Whether the five ranges from a word on all hold the values.
-fn ranges_hold(rows: &[u64], at: usize, values: &[u64; 10]) -> bool
-    requires { ⌜ at + 20 ≤ length (now rows) ⌝ }
-    ensures { λ r. ⌜ r ≡ holds (rangesAt (now (rows .entry)) at) (valuesOf (now (values .entry))) ⌝ }
-{
-    if !address_holds(rows, at, selector_at(values, 0)) {
-        return false;
-    }
-    if !address_holds(rows, at + 4, selector_at(values, 2)) {
-        return false;
-    }
-    if !protocol_holds(rows, at + 8, selector_at(values, 4)) {
-        return false;
-    }
-    if !port_holds(rows, at + 12, selector_at(values, 6)) {
-        return false;
-    }
-    port_holds(rows, at + 16, selector_at(values, 8))
-}
-
 // Whether the row at a word is for the direction and holds the values.
-fn row_matches(rows: &[u64], at: usize, direction: Direction, values: &[u64; 10]) -> bool
-    requires { ⌜ at + 22 ≤ length (now rows) ⌝ }
+fn row_matches(
+    rows: &[u64],
+    at: usize,
+    direction: Direction,
+    values: &[u64; SELECTOR_WORDS],
+) -> bool
+    requires { ⌜ at + rowWords ≤ length (now rows) ⌝ }
     ensures { λ r. ⌜ r ≡ matches direction (rowAt (now (rows .entry)) at) (valuesOf (now (values .entry))) ⌝ }
 {
     if !direction_of(rows[at]).applies_to(direction) {
         return false;
     }
-    ranges_hold(rows, at + 2, values)
+    ranges_hold(rows, at + 2, values, FIELDS)
 }
 
 // The first row for the direction that holds the values.
@@ -209,4 +148,39 @@ pub fn search(rows: &[u64], direction: Direction, selectors: Selectors) -> Actio
         return Action::Discard;
     };
     action_of(rows[row * ROW_WORDS + 1])
+}
+
+fn ends(low: Value, high: Value) -> Ends
+    ensures { λ r. ⌜ (r .low ≡ low) × (r .high ≡ high) ⌝ }
+{
+    Ends { low, high }
+}
+
+fn ranges_of(row: Row) -> Ranges
+    ensures { λ r. ⌜ r ≡ endsOfRecord row ⌝ }
+{
+    let local = row.local;
+    let remote = row.remote;
+    let protocol = row.protocol;
+    let local_port = row.local_port;
+    let remote_port = row.remote_port;
+    Ranges {
+        local: ends(local.low, local.high),
+        remote: ends(remote.low, remote.high),
+        protocol: ends(protocol.low, protocol.high),
+        local_port: ends(local_port.low, local_port.high),
+        remote_port: ends(remote_port.low, remote_port.high),
+    }
+}
+
+// Writes a row's words from a place on; a word that has no place is not written.
+pub fn put_row(rows: &mut [u64], at: usize, row: Row)
+    ensures { λ _. ⌜ now (rows .exit) ≡ sets (now (rows .entry)) at (wordsOfRecord row) ⌝ }
+{
+    if rows.len() <= at {
+        return;
+    }
+    put_word(rows, at, row.direction);
+    put_word(rows, at + 1, row.action);
+    put_ranges(rows, at + 2, ranges_of(row));
 }

@@ -10,16 +10,16 @@ use lib.ListN.{length, getD, take, drop}
 use lib.Seq.{sets-eq}
 use borrow.Author.Tests.{le-leb, lt-leb, eq-eqb, ne-eqb}
 use Rattle.policy.specs.Policy.{PolicyRow}
-use Rattle.policy.specs.Words.{rowWords}
+use Rattle.policy.specs.Words.{rowWords, wordsOf}
+use Rattle.policy.specs.WrittenLaws.{words-length}
 use Rattle.policy_text.specs.declared.File.{File}
 use Rattle.policy_text.specs.declared.File.the-variants.{Rows, Refused}
 use Rattle.policy_text.specs.declared.Parsed.the-variants.{Rows as RoomRows, NoRoom}
 use Rattle.policy_text.specs.declared.Refusal.the-variants.{NotHeader, NotEnded, TooMany, BadRow}
 use Rattle.policy_text.specs.Bytes.{lf, count, sameBytes}
 use Rattle.policy_text.specs.Format.{header, linesOf, Lines, allRows, badRow, rowsOf, Policy, refused, rows, policyOf, parsePolicy}
-use Rattle.policy_text.specs.RowWords.{wordsOf}
 use Rattle.policy_round_trip.specs.Accepted.{rows-printable}
-use Rattle.policy_round_trip.specs.Words.{all-five, words-length}
+use Rattle.policy_round_trip.specs.Words.{all-five}
 use Rattle.policy_parse.specs.Parsing.{written, badOf, fileOf, parsedIn, parsedRoom}
 use Rattle.policy_parse.specs.RowsLaws.{Read, good, bad, read, length-lines, written-rows}
 

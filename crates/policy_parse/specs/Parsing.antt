@@ -5,13 +5,12 @@ use mathlib.Core.List.{List, [], _∷_, _++_}
 use lib.Dec.{leb}
 use lib.ListN.{length, drop}
 use lib.Seq.{sets}
-use Rattle.policy.specs.Words.{rowWords}
+use Rattle.policy.specs.Words.{rowWords, wordsOf}
 use Rattle.policy_text.specs.declared.File.{File}
 use Rattle.policy_text.specs.declared.File.the-variants.{Rows as FileRows, Refused as FileRefused}
 use Rattle.policy_text.specs.declared.Parsed.{Parsed}
 use Rattle.policy_text.specs.declared.Parsed.the-variants.{Rows, Refused, NoRoom}
 use Rattle.policy_text.specs.Format.{Lines, allRows, badRow, Policy, refused, rows, refusalNumber}
-use Rattle.policy_text.specs.RowWords.{wordsOf}
 use Rattle.policy_fields.specs.Answers.{entryOf, textWords}
 
 -- A room in which the words of each line, of which the first is row i, are put at the row's place.

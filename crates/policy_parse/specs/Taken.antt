@@ -6,15 +6,15 @@ use mathlib.Core.List.{List}
 use lib.ListN.{length, take, drop, length-append}
 use lib.Seq.{take-at}
 use Rattle.policy.specs.Policy.{PolicyRow}
-use Rattle.policy.specs.Words.{rowWords, policyRows}
+use Rattle.policy.specs.Words.{rowWords, policyRows, wordsOf}
+use Rattle.policy.specs.WrittenLaws.{FiveEach, words-length, words-rows}
 use Rattle.policy_text.specs.declared.File.{File}
 use Rattle.policy_text.specs.declared.File.the-variants.{Rows, Refused}
 use Rattle.policy_text.specs.Format.{refused, rows, parsePolicy}
-use Rattle.policy_text.specs.RowWords.{wordsOf}
 use Rattle.policy_parse.specs.Parsing.{fileOf, fileRoom}
 use Rattle.policy_parse.specs.FileLaws.{file-is}
 use Rattle.policy_round_trip.specs.Accepted.{parse-printable}
-use Rattle.policy_round_trip.specs.Words.{AllFive, all-five, words-length, words-rows}
+use Rattle.policy_round_trip.specs.Words.{all-five}
 
 -- A file that was taken: its rows, at most the limit's, and their words at the start of the room.
 pub record Taken (limit : ℕ) (s : List ℕ) (n : ℕ) (room′ : List ℕ) : Type 0 where
@@ -31,7 +31,7 @@ module _ (limit : ℕ) (s room : List ℕ) where
   taken-rows : (n : ℕ) (rs : List PolicyRow) → parsePolicy limit s ≡ rows rs → n ≡ length rs → Taken limit s n (fileRoom room (rows rs))
   taken-rows n rs p k =
       let a = parse-printable limit s rs p in
-      let f : AllFive rs = all-five rs (a .0) in
+      let f : FiveEach rs = all-five rs (a .0) in
       let w : length (wordsOf rs) ≡ n * rowWords = words-length rs f ∙ rw k in
       record {
         few = omega (arith, a .1);

@@ -4,10 +4,9 @@ use native.Mathlib.Omega.{arith}
 use mathlib.Core.Path.{_≡_, refl}
 use mathlib.Core.Bool.{Bool, true, false, cond}
 use mathlib.Core.List.{List, [], _∷_, Memᴰ·of-map}
-use Rattle.selectors.specs.Range.{Range, ipv4Sizes}
+use Rattle.selectors.specs.Range.{Range, ipv4Sizes, holds}
 use Rattle.selectors.specs.RangeLaws.{contains-in}
 use Rattle.selectors.specs.declared.Direction.{Direction}
-use Rattle.normal_form.specs.Search.{holds}
 use Rattle.normal_form.specs.Shape.{Fits, normal-form-fits, normal-form-row}
 use Rattle.policy.specs.declared.Action.the-variants.{Discard}
 use Rattle.policy.specs.Action.{action-≟}

@@ -3,7 +3,5 @@ pub mod BytesLaws
 pub mod Format
 pub mod FormatLaws
 pub mod Print
-pub mod RowWords
-pub mod Stores
 pub mod PrintLaws
 pub mod Examples

@@ -8,10 +8,9 @@ use mathlib.Core.Option.{Option, none, some}
 use lib.Dec.{ltb, leb, eqb}
 use lib.ListN.{length, getD, set}
 use lib.Seq.{paste}
-use Rattle.selectors.specs.Range.{Range, inField, addressSize, protocolSize, portSize}
+use Rattle.selectors.specs.Range.{Range, inField, addressSize, protocolSize, portSize, holds}
 use Rattle.selectors.specs.Ranges.{fromTo}
 use Rattle.selectors.specs.Words.{rangesAt}
-use Rattle.normal_form.specs.Search.{holds}
 use Rattle.sad.specs.declared.Ends.{Ends}
 use Rattle.sad.specs.declared.NewPair.{NewPair}
 use Rattle.sad.specs.declared.Place.{Place}

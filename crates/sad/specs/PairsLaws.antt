@@ -10,7 +10,7 @@ use lib.Dec.{ltb, leb, eqb}
 use lib.Seq.{paste}
 use lib.ListN.{length, getD, set}
 use borrow.Author.Tests.{lt-ltb, le-ltb, le-leb, lt-leb, eq-eqb, ne-eqb}
-use Rattle.selectors.specs.Range.{contains}
+use Rattle.selectors.specs.Range.{contains, holds}
 use Rattle.selectors.specs.Ranges.{fromTo}
 use Rattle.selectors.specs.Words.{valueAt, rangeAt}
 use Rattle.selectors.specs.declared.Value.{Value}
@@ -20,7 +20,6 @@ use Rattle.selectors.specs.declared.NewProtocolRange.{NewProtocolRange}
 use Rattle.selectors.specs.declared.NewProtocolRange.the-variants.{Made as ProtocolMade, Refused as ProtocolRefused}
 use Rattle.selectors.specs.declared.NewPortRange.{NewPortRange}
 use Rattle.selectors.specs.declared.NewPortRange.the-variants.{Made as PortMade, Refused as PortRefused}
-use Rattle.normal_form.specs.Search.{holds}
 use Rattle.sad.specs.declared.Place.{Place}
 use Rattle.sad.specs.declared.Place.the-variants.{At, Nowhere}
 use Rattle.sad.specs.declared.Outcome.{Outcome}

@@ -13,7 +13,7 @@ use lib.ListN.{length, getD, set, length-set}
 use lib.Seq.{length-paste, getD-set-same, getD-set-other}
 use Rattle.selectors.specs.RangeLaws.{both-true}
 use Rattle.selectors.specs.Words.{valueAt, rangesAt}
-use Rattle.selectors.specs.WordsLaws.{paste-before, paste-in, paste-after}
+use Rattle.selectors.specs.StoresLaws.{paste-before, paste-in, paste-after}
 use Rattle.sad.specs.declared.NewPair.{NewPair}
 use Rattle.sad.specs.declared.Place.{Place}
 use Rattle.sad.specs.declared.Place.the-variants.{At, Nowhere}

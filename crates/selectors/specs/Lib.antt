@@ -6,3 +6,5 @@ pub mod Ranges
 pub mod BetweenLaws
 pub mod Words
 pub mod WordsLaws
+pub mod HeldLaws
+pub mod StoresLaws

@@ -1,6 +1,6 @@
 -- Ranges of numbers, and the numbers of the five fields. Assumes nothing: these are definitions.
 use Prim.Native.Nat.{ℕ, _-_, _^_}
-use mathlib.Core.Bool.{Bool, _&&_}
+use mathlib.Core.Bool.{Bool, true, false, _&&_}
 use mathlib.Core.List.{List, [], _∷_}
 use lib.Dec.{leb, ltb, eqb}
 
@@ -14,6 +14,13 @@ range low high = record { low = low; high = high }
 
 unfoldable pub contains : Range → ℕ → Bool
 contains r v = leb (r .low) v && leb v (r .high)
+
+-- As many ranges as values, and each range holds its value.
+unfoldable pub holds : List Range → List ℕ → Bool
+holds [] [] = true
+holds [] (v ∷ vs) = false
+holds (r ∷ rs) [] = false
+holds (r ∷ rs) (v ∷ vs) = contains r v && holds rs vs
 
 -- A field of a size S has the values 0 to S - 1. A range of such a field: low at most high, and high in the field.
 unfoldable pub inField : ℕ → Range → Bool

@@ -1,9 +1,12 @@
 -- The three types of ranges as ranges of numbers, and what their constructors answer. Assumes nothing: these are definitions.
 use Prim.Native.Nat.{ℕ}
 use mathlib.Core.Bool.{cond}
+use mathlib.Core.List.{List, [], _∷_}
 use Rattle.selectors.specs.Range.{Range, range, inField, addressSize, protocolSize, portSize}
 use Rattle.selectors.specs.Value.{number}
 use Rattle.selectors.specs.declared.Value.{Value}
+use Rattle.selectors.specs.declared.Ends.{Ends}
+use Rattle.selectors.specs.declared.Ranges.{Ranges}
 use Rattle.selectors.specs.declared.AddressRange.{AddressRange}
 use Rattle.selectors.specs.declared.ProtocolRange.{ProtocolRange}
 use Rattle.selectors.specs.declared.PortRange.{PortRange}
@@ -17,6 +20,13 @@ use Rattle.selectors.specs.declared.NewPortRange.the-variants.{Made as P
 -- The range from one value to another.
 abbrev pub fromTo : Value → Value → Range
 fromTo low high = range (number low) (number high)
+
+abbrev pub endsRange : Ends → Range
+endsRange e = fromTo (e .low) (e .high)
+
+-- The ranges of the five fields, by their ends.
+abbrev pub fiveRanges : Ranges → List Range
+fiveRanges r = endsRange (r .local) ∷ endsRange (r .remote) ∷ endsRange (r .protocol) ∷ endsRange (r .«local_port») ∷ endsRange (r .«remote_port») ∷ []
 
 abbrev pub addressRange : AddressRange → Range
 addressRange r = fromTo (r .low) (r .high)

@@ -1,4 +1,6 @@
-// The selectors of a packet, and the ranges that policy rows and SA pairs have for them (RFC 4301, 4.4.1.1).
+// The selectors of a packet, and the ranges that policy rows and SA pairs have for them (RFC 4301, 4.4.1.1); words.rt has them as words.
+pub mod words;
+
 ghost use mathlib.Core.Path.{_≡_};
 ghost use Prim.Native.Nat.{_+_, _-_, _^_, min};
 ghost use lib.Dec.{ltb, eqb};
@@ -92,6 +94,21 @@ pub struct Selectors {
     pub protocol: Value,
     pub local_port: Value,
     pub remote_port: Value,
+}
+
+// The ends of a range of any field, as words and callers give them: they may be in the wrong order, or beyond the field.
+pub struct Ends {
+    pub low: Value,
+    pub high: Value,
+}
+
+// A range for each field, by its ends.
+pub struct Ranges {
+    pub local: Ends,
+    pub remote: Ends,
+    pub protocol: Ends,
+    pub local_port: Ends,
+    pub remote_port: Ends,
 }
 
 fn within(low: u64, high: u64, value: u64) -> bool

@@ -8,7 +8,7 @@ use Rattle.selectors.specs.declared.Direction.{Direction}
 use Rattle.selectors.specs.declared.Direction.the-variants.{Out, In}
 use Rattle.policy.specs.Policy.{PolicyRow}
 use Rattle.policy_text.specs.Format.{Policy, refused, rows, refusalNumber, refusalCarries}
-use Rattle.decorrelate.specs.Form.{form, formWords, padded, directionNumber}
+use Rattle.decorrelate.specs.Form.{form, formRoom, directionNumber}
 use Rattle.spd_cache.specs.Cache.{emptyCache}
 use Rattle.spd_words.specs.Words.{addressOf}
 use Rattle.spd.specs.declared.Acceptance.{Acceptance}
@@ -16,15 +16,15 @@ use Rattle.spd.specs.declared.Acceptance.the-variants.{Accepted, Refused
 use Rattle.spd.specs.declared.Caches.{Caches}
 use Rattle.spd.specs.declared.Settled.{Settled}
 
--- The words of a gateway with this address: the counts of the rows for out and for in, and a room for the limit's rows for each.
+-- The words of a gateway with this address: the counts of the rows for out and for in, and a room for the rows of each.
 abbrev pub heldWords : ℕ → ℕ → List ℕ → ℕ → List ℕ → List ℕ
 heldWords address outCount outRoom inCount inRoom = address ∷ outCount ∷ inCount ∷ (outRoom ++ inRoom)
 
 -- The words of a gateway with this address that holds this policy: 'A fresh gate holds the gateway address it was made with, never
--- changed, the policy without rows'.
-abbrev pub spdWords : ℕ → List PolicyRow → List ℕ
-spdWords address rs =
-    heldWords address (length (form Out rs)) (padded (formWords (form Out rs))) (length (form In rs)) (padded (formWords (form In rs)))
+-- changed, the policy without rows'. Each room is for `capacity` rows.
+abbrev pub spdWords : ℕ → ℕ → List PolicyRow → List ℕ
+spdWords capacity address rs =
+    heldWords address (length (form Out rs)) (formRoom capacity Out rs) (length (form In rs)) (formRoom capacity In rs)
 
 -- 'A policy is checked in the order 23, 24, 21, 20 (first bad row), 22', and 22 has the 'way, out tried first'.
 abbrev pub accepting : ℕ → Policy → Acceptance
@@ -41,9 +41,9 @@ ifAccepted (Refused r) new old = old
 ifAccepted (TooLarge d) new old = old
 
 -- The words after a policy file. The address is 'never changed'.
-abbrev pub spdAfter : ℕ → List ℕ → Policy → List ℕ
-spdAfter limit ws (refused p) = ws
-spdAfter limit ws (rows rs) = ifAccepted (accepting limit (rows rs)) (spdWords (addressOf ws) rs) ws
+abbrev pub spdAfter : ℕ → ℕ → List ℕ → Policy → List ℕ
+spdAfter capacity limit ws (refused p) = ws
+spdAfter capacity limit ws (rows rs) = ifAccepted (accepting limit (rows rs)) (spdWords capacity (addressOf ws) rs) ws
 
 -- 'A fresh gate holds … empty caches.'
 abbrev pub emptyCaches : Caches

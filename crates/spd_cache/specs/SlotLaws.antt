@@ -11,7 +11,7 @@ use lib.ListN.{length, take, drop, length-drop, length-replicate, take-append-dr
 use lib.Seq.{length-paste, getD-drop}
 use Rattle.selectors.specs.Words.{valueAt}
 use Rattle.selectors.specs.declared.Direction.{Direction}
-use Rattle.selectors.specs.WordsLaws.{paste-before, paste-in, paste-after}
+use Rattle.selectors.specs.StoresLaws.{paste-before, paste-in, paste-after}
 use Rattle.policy.specs.declared.Found.{Found}
 use Rattle.policy.specs.declared.Found.the-variants.{Row, Nothing}
 use Rattle.policy.specs.Policy.{PolicyRow, matches, orderedSearch, matchFrom}

@@ -6,7 +6,7 @@ use mathlib.Core.Path.{_≡_, sym, _∙_}
 use denote.Ref.{now}
 use borrow.Author.Tests.{not-true, not-false}
 use borrow.Author.Needs.{needs}
-use Rattle.normal_form.specs.Search.{holds}
+use Rattle.selectors.specs.Range.{holds}
 use Rattle.layout.specs.Decode.{valuesFrom, rangesFrom}
 use Rattle.layout.specs.DecodeLaws.{holds-go, holds-stop, holds-ended}
 use Rattle.layout.proofs.ranges_hold.Statement.{statement}

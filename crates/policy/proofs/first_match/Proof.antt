@@ -6,8 +6,10 @@ use mathlib.Core.Path.{_≡_, sym, ap, _∙_}
 use denote.Ref.{now}
 use Rattle.selectors.specs.Value.{combination}
 use Rattle.policy.specs.Policy.{matchFrom}
-use Rattle.policy.specs.Words.{rowsFrom, policyRows, valuesOf}
-use Rattle.policy.specs.WordsLaws.{match-found, match-passed, match-ended, selector-values}
+use Rattle.selectors.specs.Words.{valuesOf}
+use Rattle.selectors.specs.WordsLaws.{selector-values}
+use Rattle.policy.specs.Words.{rowsFrom, policyRows}
+use Rattle.policy.specs.WordsLaws.{match-found, match-passed, match-ended}
 use borrow.Author.Needs.{needs}
 use Rattle.policy.proofs.first_match.Statement.{statement}
 use Rattle.policy.proofs.first_match.Tie as tie

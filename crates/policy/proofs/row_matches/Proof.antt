@@ -3,7 +3,10 @@ use mathlib.Core.Path.{sym, _∙_}
 use borrow.Author.Tests.{not-true, not-false}
 use Rattle.policy.specs.Policy.{matches}
 use Rattle.policy.specs.Words.{rowAt}
+use Prim.Native.Nat.{_+_}
+use denote.Ref.{now}
 use borrow.Author.Needs.{needs}
+use Rattle.selectors.specs.HeldLaws.{held-five}
 use Rattle.policy.proofs.row_matches.Statement.{statement}
 use Rattle.policy.proofs.row_matches.Tie as tie
 
@@ -33,7 +36,7 @@ returns-2 : tie.Need-returns-2
 unfolding matches rowAt
 returns-2 c =
     rw (← (c .before .before .before .direction-of .ensures), sym (c .before .before .applies-to .ensures) ∙ not-false _ (c .before .if1 .left))
-    (c .ranges-hold .ensures)
+    (c .ranges-hold .ensures ∙ held-five (now (c .before .before .before .before .before .before .args .rows)) (c .before .before .before .before .before .before .args .at + 2) (now (c .before .before .before .before .before .before .args .values)) (search needs))
 
 pub row-matches-spec : {M : Type 1} → statement M
 row-matches-spec =

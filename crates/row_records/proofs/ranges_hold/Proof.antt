@@ -2,7 +2,7 @@
 use mathlib.Core.Path.{sym, _∙_}
 use mathlib.Core.Bool.{and-true}
 use borrow.Author.Tests.{not-true, not-false}
-use Rattle.normal_form.specs.Search.{holds}
+use Rattle.selectors.specs.Range.{holds}
 use borrow.Author.Needs.{needs}
 use Rattle.row_records.proofs.ranges_hold.Statement.{statement}
 use Rattle.row_records.proofs.ranges_hold.Tie as tie

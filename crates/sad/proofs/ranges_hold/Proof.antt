@@ -1,5 +1,5 @@
 -- `sad::ranges_hold` meets its contract: field by field, as the definition goes. Assumes nothing.
-use Rattle.normal_form.specs.Search.{holds}
+use Rattle.selectors.specs.Range.{holds}
 use borrow.Author.Tests.{not-true, not-false}
 use mathlib.Core.Bool.{and-true}
 use mathlib.Core.Path.{sym, _∙_}
