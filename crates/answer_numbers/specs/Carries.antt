@@ -3,7 +3,7 @@ use Prim.Native.Nat.{ℕ}
 use mathlib.Core.List.{List, [], _∷_}
 use Rattle.policy_text.specs.declared.Parsed.{Parsed}
 use Rattle.policy_text.specs.declared.Parsed.the-variants.{Rows, Refused, NoRoom}
-use Rattle.policy_text.specs.Format.{refusalCarries}
+use Rattle.policy_text.specs.Editions.{refusalCarries}
 use Rattle.policy_print.specs.declared.Printed.{Printed}
 use Rattle.policy_print.specs.declared.Printed.the-variants.{Bytes, NoRoom as NoBytes}
 use Rattle.same_policy.specs.declared.Compared.{Compared}

@@ -1,6 +1,6 @@
 // Document 01's number of each answer, and what the answer carries.
 ghost use mathlib.Core.Path.{_≡_};
-ghost use Rattle.policy_text.specs.Format.{refusalNumber, refusalCarries};
+ghost use Rattle.policy_text.specs.Editions.{refusalNumber, refusalCarries};
 ghost use Rattle.policy_parse.specs.Parsing.{parsedNumber};
 ghost use Rattle.policy_print.specs.Printing.{printedNumber};
 ghost use Rattle.decorrelate.specs.Form.{directionNumber};

@@ -14,7 +14,9 @@ use Rattle.policy.specs.Policy.{PolicyRow}
 use Rattle.policy_text.specs.declared.Refusal.{Refusal}
 use Rattle.policy_text.specs.declared.Refusal.the-variants.{NotHeader, NotEnded, TooMany, BadRow}
 use Rattle.policy_text.specs.Bytes.{lf, after, sameBytes}
-use Rattle.policy_text.specs.Format.{header, rowOf, linesOf, Lines, allRows, badRow, ontoRow, rowsOf, Policy, refused, rows, policyOf, parsePolicy}
+use Rattle.policy_text.specs.Format.{rowOf, linesOf, Lines, allRows, badRow, ontoRow, rowsOf}
+use Rattle.policy_text.specs.Edition1.{header}
+use Rattle.policy_text.specs.Editions.{Policy, refused, rows, policyOf, parsePolicy}
 use Rattle.decorrelate.specs.Form.{form, directionNumber}
 use Rattle.normaliser.specs.Normalise.{formFile, normalised, normalisedNumber, normalisedCarries}
 use Rattle.normaliser.specs.declared.Normalised.{Normalised}

@@ -28,7 +28,7 @@ use Rattle.sad.specs.declared.Outcome.the-variants.{Done, NothingToRemove}
 use Rattle.verdicts.specs.Calls.{shows, forGateway, toIpsec, inboundAction, inboundRead, inboundBy}
 use Rattle.gateway.specs.Cached.{cachedSearch, outboundCached, inboundCache, inboundCached}
 use Rattle.verdicts.specs.Verdict.{verdictNumber}
-use Rattle.policy_text.specs.Format.{Policy, refused, rows}
+use Rattle.policy_text.specs.Editions.{Policy, refused, rows}
 use Rattle.normaliser.specs.Normalise.{normalised, bytesAfter, normalisedBytes, normalisedNumber}
 use Rattle.normaliser.specs.declared.Normalised.{Normalised}
 use Rattle.normaliser.specs.declared.Normalised.the-variants.{Printed, Refused, TooLarge, NoRoom}

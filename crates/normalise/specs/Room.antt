@@ -10,7 +10,7 @@ use borrow.Author.Tests.{le-leb, lt-leb}
 use Rattle.selectors.specs.declared.Direction.{Direction}
 use Rattle.policy.specs.Words.{rowLimit}
 use Rattle.policy.specs.Policy.{PolicyRow, asPolicy}
-use Rattle.policy_text.specs.Format.{Policy, refused, rows, parsePolicy}
+use Rattle.policy_text.specs.Editions.{Policy, refused, rows, parsePolicy}
 use Rattle.policy_round_trip.specs.Accepted.{parse-printable}
 use Rattle.policy_round_trip.specs.Files.{policy-length}
 use Rattle.policy_round_trip.specs.NormalForms.{normal-form-printable}

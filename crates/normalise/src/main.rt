@@ -9,7 +9,7 @@ ghost use mathlib.Core.Path.{_≡_};
 ghost use lib.ListN.{length};
 ghost use Rattle.policy.specs.Words.{rowLimit};
 ghost use Rattle.normaliser.specs.Normalise.{normalised, normalisedNumber};
-ghost use Rattle.policy_text.specs.Format.{parsePolicy};
+ghost use Rattle.policy_text.specs.Editions.{parsePolicy};
 ghost use Rattle.normalise.specs.Command.{directionAsked, Within};
 ghost use Rattle.normalise.specs.Room.{formBytes, Answered, IsFormFile};
 use libc::STDERR_FILENO;

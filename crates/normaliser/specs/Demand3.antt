@@ -17,7 +17,7 @@ use Rattle.normal_form.specs.Search.{Row, Combination}
 use Rattle.policy.specs.declared.Action.{Action}
 use Rattle.policy.specs.Policy.{PolicyRow, orderedSearch, asRow, asPolicy}
 use Rattle.policy.specs.PolicyLaws.{searching-normal-form, same-normal-form, normalising-again}
-use Rattle.policy_text.specs.Format.{rows, parsePolicy}
+use Rattle.policy_text.specs.Editions.{rows, parsePolicy}
 use Rattle.policy_text.specs.Print.{policyText}
 use Rattle.policy_round_trip.specs.Files.{AllPrintable, parse-printed, printing-injective}
 use Rattle.policy_round_trip.specs.Accepted.{parse-printable}

@@ -6,7 +6,7 @@ use lib.Dec.{leb}
 use lib.ListN.{length, drop}
 use Rattle.selectors.specs.declared.Direction.{Direction}
 use Rattle.policy.specs.Policy.{PolicyRow, asPolicy}
-use Rattle.policy_text.specs.Format.{Policy, refused, rows, refusalNumber, refusalCarries}
+use Rattle.policy_text.specs.Editions.{Policy, refused, rows, refusalNumber, refusalCarries}
 use Rattle.policy_text.specs.Print.{policyText}
 use Rattle.decorrelate.specs.Form.{form, directionNumber}
 use Rattle.normaliser.specs.declared.Normalised.{Normalised}

@@ -9,6 +9,7 @@ use borrow.Author.Tests.{le-leb, lt-leb}
 use Rattle.selectors.specs.declared.Direction.{Direction}
 use Rattle.policy.specs.Policy.{PolicyRow}
 use Rattle.policy.specs.Words.{policyRows}
+use Rattle.policy_text.specs.Editions.{rows}
 use Rattle.policy_text.specs.Print.{policyText, toward}
 use Rattle.policy_print.specs.Printing.{printed, printedIn, printedRoom}
 use Rattle.policy_print.specs.declared.Printed.{Printed}
@@ -19,7 +20,6 @@ use Rattle.normaliser.specs.declared.Normalised.the-variants.{Printed as
 use Rattle.decorrelate.specs.Form.{form, formWords}
 use Rattle.decorrelate.specs.FormLaws.{form-words-rows}
 use Rattle.normaliser.specs.Normalise.{formFile, normalised, normalisedBytes}
-use Rattle.policy_text.specs.Format.{rows}
 
 -- The words of a normal form are printed as the normal-form file.
 pub printed-form : (d : Direction) (rs : List PolicyRow) (ws : List ℕ) → ws ≡ formWords (form d rs) → printed d (policyRows ws) ≡ formFile d rs

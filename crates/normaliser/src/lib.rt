@@ -2,7 +2,7 @@
 ghost use mathlib.Core.Path.{_≡_};
 ghost use lib.ListN.{length};
 ghost use Rattle.policy.specs.Words.{policyRows, rowLimit};
-ghost use Rattle.policy_text.specs.Format.{rows, parsePolicy};
+ghost use Rattle.policy_text.specs.Editions.{rows, parsePolicy};
 ghost use Rattle.policy_print.specs.Printing.{printed, printedIn, printedRoom};
 ghost use Rattle.normaliser.specs.Normalise.{normalised, normalisedBytes};
 ghost use Rattle.normaliser.specs.Steps.{answered};

@@ -10,7 +10,8 @@ use Rattle.policy_text.specs.declared.File.{File}
 use Rattle.policy_text.specs.declared.File.the-variants.{Rows as FileRows, Refused as FileRefused}
 use Rattle.policy_text.specs.declared.Parsed.{Parsed}
 use Rattle.policy_text.specs.declared.Parsed.the-variants.{Rows, Refused, NoRoom}
-use Rattle.policy_text.specs.Format.{Lines, allRows, badRow, Policy, refused, rows, refusalNumber}
+use Rattle.policy_text.specs.Format.{Lines, allRows, badRow}
+use Rattle.policy_text.specs.Editions.{Policy, refused, rows, refusalNumber}
 use Rattle.policy_fields.specs.Answers.{entryOf, textWords}
 
 -- A room in which the words of each line, of which the first is row i, are put at the row's place.
@@ -23,26 +24,26 @@ abbrev pub badOf : Lines → ℕ
 badOf (allRows rs) = 0
 badOf (badRow i) = i
 
--- What a file is answered with where there is room for its rows, and what is left of the room: the rows' words at its start. A refusal leaves all.
+-- What a file is answered with where there is room for its rows: its edition and their count, or the refusal; and what is left of the room: the rows' words at its start. A refusal leaves all.
 abbrev pub fileOf : Policy → File
 fileOf (refused r) = FileRefused r
-fileOf (rows rs) = FileRows (length rs)
+fileOf (rows e rs) = FileRows e (length rs)
 
 abbrev pub fileRoom : List ℕ → Policy → List ℕ
 fileRoom room (refused r) = room
-fileRoom room (rows rs) = wordsOf rs ++ drop (length rs * rowWords) room
+fileRoom room (rows e rs) = wordsOf rs ++ drop (length rs * rowWords) room
 
 -- What `parse` answers with room for that many words, and what it leaves of the room: the same, if the rows fit.
 abbrev pub parsedIn : ℕ → Policy → Parsed
 parsedIn room (refused r) = Refused r
-parsedIn room (rows rs) = cond (leb (length rs * rowWords) room) (Rows (length rs)) NoRoom
+parsedIn room (rows e rs) = cond (leb (length rs * rowWords) room) (Rows e (length rs)) NoRoom
 
 abbrev pub parsedRoom : List ℕ → Policy → List ℕ
 parsedRoom room (refused r) = room
-parsedRoom room (rows rs) = cond (leb (length rs * rowWords) (length room)) (fileRoom room (rows rs)) room
+parsedRoom room (rows e rs) = cond (leb (length rs * rowWords) (length room)) (fileRoom room (rows e rs)) room
 
 -- Document 01's number of an answer. It has none for NoRoom, since a gateway lends room for the limit: it is given that of a print's short room.
 abbrev pub parsedNumber : Parsed → ℕ
-parsedNumber (Rows n) = 5
+parsedNumber (Rows e n) = 5
 parsedNumber (Refused r) = refusalNumber r
 parsedNumber NoRoom = 31

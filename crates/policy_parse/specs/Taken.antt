@@ -8,30 +8,32 @@ use lib.Seq.{take-at}
 use Rattle.policy.specs.Policy.{PolicyRow}
 use Rattle.policy.specs.Words.{rowWords, policyRows, wordsOf}
 use Rattle.policy.specs.WrittenLaws.{FiveEach, words-length, words-rows}
+use Rattle.policy_text.specs.declared.Edition.{Edition}
 use Rattle.policy_text.specs.declared.File.{File}
 use Rattle.policy_text.specs.declared.File.the-variants.{Rows, Refused}
-use Rattle.policy_text.specs.Format.{refused, rows, parsePolicy}
+use Rattle.policy_text.specs.Editions.{refused, rows, parsePolicy}
 use Rattle.policy_parse.specs.Parsing.{fileOf, fileRoom}
 use Rattle.policy_parse.specs.FileLaws.{file-is}
 use Rattle.policy_round_trip.specs.Accepted.{parse-printable}
 use Rattle.policy_round_trip.specs.Words.{all-five}
 
--- A file that was taken: its rows, at most the limit's, and their words at the start of the room.
-pub record Taken (limit : ℕ) (s : List ℕ) (n : ℕ) (room′ : List ℕ) : Type 0 where
+-- A file that was taken: its edition and rows, at most the limit's, and their words at the start of the room.
+pub record Taken (limit : ℕ) (s : List ℕ) (e : Edition) (n : ℕ) (room′ : List ℕ) : Type 0 where
   pub few : n ≤ limit
   pub words-fit : n * rowWords ≤ length room′
-  pub is : parsePolicy limit s ≡ rows (policyRows (take (n * rowWords) room′))
+  pub is : parsePolicy limit s ≡ rows e (policyRows (take (n * rowWords) room′))
 
 -- What an answer says of the file: its rows stand in the room, or it is refused so.
 unfoldable pub Told : ℕ → List ℕ → List ℕ → File → Type 0
-Told limit s room′ (Rows n) = Taken limit s n room′
+Told limit s room′ (Rows e n) = Taken limit s e n room′
 Told limit s room′ (Refused r) = parsePolicy limit s ≡ refused r
 
 module _ (limit : ℕ) (s room : List ℕ) where
-  taken-rows : (n : ℕ) (rs : List PolicyRow) → parsePolicy limit s ≡ rows rs → n ≡ length rs → Taken limit s n (fileRoom room (rows rs))
-  taken-rows n rs p k =
-      let a = parse-printable limit s rs p in
-      let f : FiveEach rs = all-five rs (a .0) in
+  taken-rows : (e : Edition) (n : ℕ) (rs : List PolicyRow) → parsePolicy limit s ≡ rows e rs → n ≡ length rs
+      → Taken limit s e n (fileRoom room (rows e rs))
+  taken-rows e n rs p k =
+      let a = parse-printable limit s e rs p in
+      let f : FiveEach rs = all-five e rs (a .0) in
       let w : length (wordsOf rs) ≡ n * rowWords = words-length rs f ∙ rw k in
       record {
         few = omega (arith, a .1);
@@ -41,5 +43,5 @@ module _ (limit : ℕ) (s room : List ℕ) where
 
   pub told : (f : File) → f ≡ fileOf (parsePolicy limit s) → Told limit s (fileRoom room (parsePolicy limit s)) f
   unfolding Told
-  told (Rows n) e = let h = file-is (parsePolicy limit s) (Rows n) e in rw (h .1 .0) (taken-rows n (h .0) (h .1 .0) (h .1 .1))
-  told (Refused r) e = file-is (parsePolicy limit s) (Refused r) e
+  told (Rows e n) q = let h = file-is (parsePolicy limit s) (Rows e n) q in rw (h .1 .0) (taken-rows e n (h .0) (h .1 .0) (h .1 .1))
+  told (Refused r) q = file-is (parsePolicy limit s) (Refused r) q

@@ -5,7 +5,9 @@ ghost use lib.ListN.{length, getD, take, drop};
 ghost use lib.Seq.{sets};
 ghost use Rattle.policy_text.specs.Bytes.{lf, before, after};
 ghost use Rattle.policy.specs.Words.{rowWords, rowLimit};
-ghost use Rattle.policy_text.specs.Format.{linesOf, rowsOf, parsePolicy};
+ghost use Rattle.policy_text.specs.Format.{linesOf, rowsOf};
+ghost use Rattle.policy_text.specs.Edition1.{edition1};
+ghost use Rattle.policy_text.specs.Editions.{parsePolicy};
 ghost use Rattle.policy_fields.specs.Answers.{textWords};
 ghost use Rattle.policy_parse.specs.Parsing.{badOf, written, fileOf, fileRoom, parsedIn, parsedRoom};
 use policy::LIMIT;
@@ -14,6 +16,7 @@ use policy::ROW_WORDS;
 use policy::put_row;
 use policy_fields::RowText;
 use policy_fields::row;
+use policy_text::Edition;
 use policy_text::File;
 use policy_text::Parsed;
 use policy_text::Refusal;
@@ -44,7 +47,7 @@ fn next_line(s: &[u8], at: usize) -> usize
 
 // The number of the first bad row of that many, and 0 if there is none.
 fn first_bad(body: &[u8], count: usize) -> usize
-    ensures { λ r. ⌜ r ≡ badOf (rowsOf 1 (linesOf count (now (body .entry)))) ⌝ }
+    ensures { λ r. ⌜ r ≡ badOf (rowsOf edition1 1 (linesOf count (now (body .entry)))) ⌝ }
 {
     let mut at: usize = 0;
     let mut i: usize = 0;
@@ -110,7 +113,7 @@ fn last(s: &[u8]) -> u8
     s[s.len() - 1]
 }
 
-// What a file is: its refusal, by the tests in their order, or the count of its rows.
+// What a file is: its refusal, by the tests in their order, or its edition and the count of its rows.
 fn examine(bytes: &[u8], limit: usize) -> File
     ensures { λ r. ⌜ r ≡ fileOf (parsePolicy limit (now (bytes .entry))) ⌝ }
 {
@@ -129,7 +132,7 @@ fn examine(bytes: &[u8], limit: usize) -> File
     if bad != 0 {
         return File::Refused(Refusal::BadRow(bad));
     }
-    File::Rows(n)
+    File::Rows(Edition::One, n)
 }
 
 // The rows of a policy file as words, at the start of the lent room; on any refusal, and where the rows do not fit, the room is left alone.
@@ -139,12 +142,12 @@ pub fn parse(bytes: &[u8], limit: usize, rows: &mut [u64]) -> Parsed
 {
     let file = examine(bytes, limit);
     match file {
-        File::Rows(n) => {
+        File::Rows(edition, n) => {
             if rows.len() / ROW_WORDS < n {
                 return Parsed::NoRoom;
             }
             put_rows(after_nine(bytes), n, rows);
-            Parsed::Rows(n)
+            Parsed::Rows(edition, n)
         }
         File::Refused(refusal) => Parsed::Refused(refusal),
     }
@@ -157,9 +160,9 @@ pub fn parse_policy(bytes: &[u8], rows: &mut [u64; POLICY_WORDS]) -> File
 {
     let file = examine(bytes, LIMIT);
     match file {
-        File::Rows(n) => {
+        File::Rows(edition, n) => {
             put_rows(after_nine(bytes), n, rows);
-            File::Rows(n)
+            File::Rows(edition, n)
         }
         File::Refused(refusal) => File::Refused(refusal),
     }

@@ -4,7 +4,7 @@ use mathlib.Core.List.{List, [], _∷_}
 use Rattle.selectors.specs.Range.{ipv4Sizes}
 use Rattle.selectors.specs.declared.Direction.{Direction}
 use Rattle.normal_form.specs.Search.{Row}
-use Rattle.policy_text.specs.Format.{Policy, refused, rows, refusalNumber, refusalCarries}
+use Rattle.policy_text.specs.Editions.{Policy, refused, rows, refusalNumber, refusalCarries}
 use Rattle.layout.specs.Parting.{Parting, differenceForm}
 use Rattle.same_policy.specs.declared.Compared.{Compared}
 use Rattle.same_policy.specs.declared.Compared.the-variants.{Same, Different, FirstRefused, SecondRefused}

@@ -9,7 +9,7 @@ use Rattle.selectors.specs.Range.{ipv4Sizes}
 use Rattle.selectors.specs.declared.Direction.{Direction}
 use Rattle.normal_form.specs.Search.{Row}
 use Rattle.policy.specs.Policy.{PolicyRow}
-use Rattle.policy_text.specs.Format.{rows, parsePolicy}
+use Rattle.policy_text.specs.Editions.{rows, parsePolicy}
 use Rattle.layout.specs.Parting.{Parting, differenceForm}
 use Rattle.decorrelate.specs.Agree.{Agree}
 use Rattle.decorrelate.specs.AgreeLaws.{difference-none}

@@ -1,7 +1,7 @@
 // Whether two policy files are the same policy in a direction: every search of one gives what it gives of the other.
 ghost use mathlib.Core.Path.{_≡_};
 ghost use Rattle.policy.specs.Words.{policyRows, rowLimit};
-ghost use Rattle.policy_text.specs.Format.{rows as rowsIn, parsePolicy};
+ghost use Rattle.policy_text.specs.Editions.{rows as rowsIn, parsePolicy};
 ghost use Rattle.same_policy.specs.Same.{compared};
 use policy::POLICY_WORDS;
 use policy::ROW_WORDS;

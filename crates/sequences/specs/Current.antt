@@ -11,7 +11,7 @@ use Rattle.packet.specs.ReadLaws.{Bytes}
 use Rattle.packet.specs.declared.Reading.{Reading}
 use Rattle.packet.specs.declared.Reading.the-variants.{Readable, Unreadable}
 use Rattle.policy.specs.Policy.{PolicyRow, matches, orderedSearch}
-use Rattle.policy_text.specs.Format.{Policy, refused, rows, parsePolicy}
+use Rattle.policy_text.specs.Editions.{Policy, refused, rows, parsePolicy}
 use Rattle.layout.specs.NormalRows.{bothWays}
 use Rattle.decorrelate.specs.Form.{form}
 use Rattle.spd_cache.specs.Cache.{slotCount}

@@ -7,7 +7,7 @@ use lib.ListN.{length}
 use Rattle.selectors.specs.declared.Direction.{Direction}
 use Rattle.selectors.specs.declared.Direction.the-variants.{Out, In}
 use Rattle.policy.specs.Policy.{PolicyRow}
-use Rattle.policy_text.specs.Format.{Policy, refused, rows, refusalNumber, refusalCarries}
+use Rattle.policy_text.specs.Editions.{Policy, refused, rows, refusalNumber, refusalCarries}
 use Rattle.decorrelate.specs.Form.{form, formRoom, directionNumber}
 use Rattle.spd_cache.specs.Cache.{emptyCache}
 use Rattle.spd_words.specs.Words.{addressOf}

@@ -14,7 +14,7 @@ use Rattle.selectors.specs.declared.Direction.the-variants.{Out, In}
 use Rattle.normal_form.specs.Search.{Combination}
 use Rattle.policy.specs.Policy.{PolicyRow, orderedSearch}
 use Rattle.policy.specs.Words.{rowWords, policyRows}
-use Rattle.policy_text.specs.Format.{Policy, refused, rows}
+use Rattle.policy_text.specs.Editions.{Policy, refused, rows}
 use Rattle.decorrelate.specs.Form.{form, formWords, padded, formRoom}
 use Rattle.decorrelate.specs.AgreeLaws.{empty-form}
 use Rattle.decorrelate.specs.FormLaws.{form-words-length, form-search}

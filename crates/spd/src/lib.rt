@@ -5,7 +5,7 @@ ghost use Prim.Native.Nat.{_+_, _≤_};
 ghost use lib.ListN.{length};
 ghost use lib.Seq.{paste};
 ghost use Rattle.policy.specs.Words.{policyRows, policyWords, rowLimit};
-ghost use Rattle.policy_text.specs.Format.{rows, parsePolicy};
+ghost use Rattle.policy_text.specs.Editions.{rows, parsePolicy};
 ghost use Rattle.spd.specs.Spd.{heldWords, spdWords, spdAfter, emptyCaches, answer, settled};
 use decorrelate::Form;
 use policy::POLICY_WORDS;

@@ -4,7 +4,7 @@ use Prim.Native.Nat.{ℕ, _+_, _*_}
 use mathlib.Core.Path.{_≡_, refl}
 use lib.ListN.{length}
 use Rattle.policy.specs.Words.{rowWords, rowLimit}
-use Rattle.policy_text.specs.Format.{header}
+use Rattle.policy_text.specs.Edition1.{header}
 use Rattle.sad.specs.Pairs.{placeCount, placeWords}
 use Rattle.spd_cache.specs.Cache.{slotCount, emptyCache}
 use Rattle.cache_in_place.specs.Lent.{cacheWords}

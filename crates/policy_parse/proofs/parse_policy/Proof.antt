@@ -1,13 +1,15 @@
 -- `policy_parse::parse_policy` meets its contract: the limit's rows fit. Assumes nothing.
 use Prim.Native.Nat.{_*_, _≤_}
 use native.Mathlib.Omega.{arith}
-use mathlib.Core.Path.{_≡_, sym, _∙_}
+use mathlib.Core.Path.{_≡_, sym, ap, _∙_}
+use Rattle.policy_text.specs.declared.Edition.{Edition}
 use denote.Ref.{now}
 use lib.ListN.{length}
 use Rattle.policy.specs.Words.{rowLimit}
 use Rattle.policy_text.specs.declared.File.{File}
 use Rattle.policy_text.specs.declared.File.the-variants.{Rows, Refused}
-use Rattle.policy_text.specs.Format.{parsePolicy}
+use Rattle.policy_text.specs.EditionsLaws.{only-one}
+use Rattle.policy_text.specs.Editions.{rows, parsePolicy}
 use Rattle.policy_round_trip.specs.Accepted.{parse-printable}
 use Rattle.policy_parse.specs.FileLaws.{FileIs, file-is, rows-written}
 use borrow.Author.Needs.{needs}
@@ -19,10 +21,10 @@ says : (c : tie.After-examine) (f : File) → c .examine .result ≡ f → FileI
 says c f e = file-is _ f (sym e ∙ c .examine .ensures)
 
 -- Its rows are at most the limit's.
-few : (c : tie.After-file) → c .file .given .0 .0 ≤ rowLimit
+few : (c : tie.After-file) → c .file .given .0 .1 .0 ≤ rowLimit
 few c =
-    let h = says (c .before .before) (Rows (c .file .given .0 .0)) (c .file .given .1) in
-    omega (arith, parse-printable rowLimit _ (h .0) (h .1 .0) .1, h .1 .1)
+    let h = says (c .before .before) (Rows (c .file .given .0 .0) (c .file .given .0 .1 .0)) (c .file .given .1) in
+    omega (arith, parse-printable rowLimit _ _ (h .0) (h .1 .0) .1, h .1 .1)
 
 examine-requires : tie.Need-examine-requires
 examine-requires c κs = search needs
@@ -43,10 +45,11 @@ returns : tie.Need-returns
 returns c =
     let x = c .before .before .before .before in
     let s = x .before .before .before .before .args in
-    let n = x .file .given .0 .0 in
-    let h = says (x .before .before) (Rows n) (x .file .given .1) in
+    let e = x .file .given .0 .0 in
+    let n = x .file .given .0 .1 .0 in
+    let h = says (x .before .before) (Rows e n) (x .file .given .1) in
     let l = few x in
-    let w = rows-written rowLimit (now (s .bytes)) (h .0) (h .1 .0) (now (s .rows)) n (h .1 .1) (search needs) in
+    let w = rows-written rowLimit (now (s .bytes)) (h .0) (h .1 .0 ∙ ap (λ (o : Edition). rows o (h .0)) (only-one e)) (now (s .rows)) n (h .1 .1) (search needs) in
     (sym (x .file .given .1) ∙ x .before .before .examine .ensures, rw (h .1 .0) (c .put-rows .ensures ∙ rw (c .before .before .after-nine .ensures) w))
 
 returns-2 : tie.Need-returns-2

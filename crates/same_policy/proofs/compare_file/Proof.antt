@@ -9,7 +9,7 @@ use Rattle.policy.specs.Words.{policyRows, rowLimit}
 use Rattle.policy_text.specs.declared.File.{File}
 use Rattle.policy_text.specs.declared.File.the-variants.{Rows, Refused}
 use Rattle.policy_parse.specs.Taken.{Taken, Told, told}
-use Rattle.policy_text.specs.Format.{Policy, rows}
+use Rattle.policy_text.specs.Editions.{Policy, rows}
 use Rattle.same_policy.specs.Same.{compared}
 use borrow.Author.Needs.{needs}
 use Rattle.same_policy.proofs.compare_file.Statement.{statement}

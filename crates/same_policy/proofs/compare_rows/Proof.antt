@@ -4,7 +4,7 @@ use mathlib.Core.Bool.{Bool, cond}
 use denote.Ref.{now}
 use borrow.Author.Needs.{needs}
 use Rattle.policy.specs.Words.{policyRows}
-use Rattle.policy_text.specs.Format.{rows}
+use Rattle.policy_text.specs.Editions.{rows}
 use Rattle.same_policy.specs.declared.Compared.the-variants.{Same, Different}
 use Rattle.same_policy.specs.Same.{compared}
 use Rattle.same_policy.specs.SameLaws.{by-agreement}
