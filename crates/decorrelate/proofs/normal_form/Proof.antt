@@ -19,7 +19,7 @@ same-length c = search needs
 returns : tie.Need-returns
 returns c =
     let a = c .before .before .before .before .before .before .before .args in
-    form-outcome rowLimit (a .direction) (now (a .rows)) _ (now (a .room)) _ _ (search needs) (c .before .before .layout .ensures) (ipv4-highest _ refl)
+    form-outcome rowLimit (a .direction) (now (a .rows)) _ (now (a .room)) _ _ (c .slice-known2 .given) (search needs) (c .before .before .layout .ensures) (ipv4-highest _ refl)
 
 pub normal-form-spec : {M : Type 1} → statement M
 normal-form-spec =
