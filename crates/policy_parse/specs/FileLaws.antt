@@ -2,7 +2,7 @@
 use Prim.Native.Nat.{ℕ, _-_, _*_, _≤_, _<_}
 use native.Mathlib.Omega.{arith}
 use native.Mathlib.Nat.{zero-add}
-use mathlib.Core.Path.{_≡_, refl, sym, _∙_}
+use mathlib.Core.Path.{_≡_, refl, sym, ap, _∙_}
 use mathlib.Core.Bool.{Bool, true, false, cond}
 use mathlib.Core.List.{List, _++_}
 use mathlib.Core.Option.{Option, none, some}
@@ -22,7 +22,7 @@ use Rattle.policy_text.specs.declared.Refusal.the-variants.{NotHeader, NotEnded
 use Rattle.policy_text.specs.Bytes.{lf, sameBytes}
 use Rattle.policy_text.specs.Format.{linesOf, Lines, allRows, badRow, rowsOf}
 use Rattle.policy_text.specs.Edition1.{header, edition1}
-use Rattle.policy_text.specs.Editions.{formatOf, editionAmong, editionOf, rowCount, rowLines, Policy, refused, rows, policyOf, checked, parsePolicy}
+use Rattle.policy_text.specs.Editions.{formatOf, editionAmong, editionOf, rowCount, rowLines, rules, Policy, refused, rows, policyOf, checked, parsePolicy}
 use Rattle.policy_round_trip.specs.Accepted.{rows-printable}
 use Rattle.policy_round_trip.specs.Words.{all-five}
 use Rattle.policy_parse.specs.Parsing.{written, badOf, fileOf, parsedIn, parsedRoom}
@@ -76,43 +76,47 @@ module _ (ls : List (List ℕ)) where
 
 -- What the answer for a file says of it.
 abbrev pub FileIs : Policy → File → Type 0
-FileIs p (Rows e n) = (rs : List PolicyRow) × ((p ≡ rows e rs) × (n ≡ length rs))
+FileIs p (Rows e n) = (rs : List PolicyRow) × ((p ≡ rows (rules e rs)) × (n ≡ length rs))
 FileIs p (Refused r) = p ≡ refused r
 
 pub file-is : (p : Policy) (f : File) → f ≡ fileOf p → FileIs p f
 file-is (refused q) (Refused r) h = cc
 file-is (refused q) (Rows e n) h = let z : _≡_ {A = ℕ} 0 1 = cc in absurd (omega arith)
-file-is (rows o rs) (Refused r) h = let z : _≡_ {A = ℕ} 0 1 = cc in absurd (omega arith)
-file-is (rows o rs) (Rows e n) h = (rs, ((cc), (cc)))
+file-is (rows q) (Refused r) h = let z : _≡_ {A = ℕ} 0 1 = cc in absurd (omega arith)
+file-is (rows q) (Rows e n) h =
+    let same : q .edition ≡ e = cc in
+    (q .entries, (ap (λ (o : Edition). rows (rules o (q .entries))) same, (cc)))
 
 -- A file that is taken: each of its lines is a row.
-rows-lines : (e o : Edition) (l : Lines) (rs : List PolicyRow) → policyOf o l ≡ rows e rs → (o ≡ e) × (l ≡ allRows rs)
-rows-lines e o (allRows qs) rs h = ((cc), (cc))
+rows-lines : (e o : Edition) (l : Lines) (rs : List PolicyRow) → policyOf o l ≡ rows (rules e rs) → (o ≡ e) × (l ≡ allRows rs)
+rows-lines e o (allRows qs) rs h =
+    let one : rules o qs ≡ rules e rs = cc in
+    (λ i. (one i) .edition, λ i. allRows ((one i) .entries))
 rows-lines e o (badRow k) rs h = let z : _≡_ {A = ℕ} 0 1 = cc in absurd (omega arith)
 
-module _ (limit : ℕ) (s : List ℕ) (e : Edition) (rs : List PolicyRow) (is : parsePolicy limit s ≡ rows e rs) where
+module _ (limit : ℕ) (s : List ℕ) (e : Edition) (rs : List PolicyRow) (is : parsePolicy limit s ≡ rows (rules e rs)) where
   file-lines : rowsOf (formatOf e) 1 (rowLines e s) ≡ allRows rs
   unfolding parsePolicy
   file-lines = found (editionOf s) is
     where
-      lined : (o : Edition) → policyOf o (rowsOf (formatOf o) 1 (rowLines o s)) ≡ rows e rs → rowsOf (formatOf e) 1 (rowLines e s) ≡ allRows rs
+      lined : (o : Edition) → policyOf o (rowsOf (formatOf o) 1 (rowLines o s)) ≡ rows (rules e rs) → rowsOf (formatOf e) 1 (rowLines e s) ≡ allRows rs
       lined o h =
           let p = rows-lines e o (rowsOf (formatOf o) 1 (rowLines o s)) rs h in
           rw (← p .0) (p .1)
 
       by : (o : Edition) (b c : Bool)
-          → cond b (cond c (policyOf o (rowsOf (formatOf o) 1 (rowLines o s))) (refused TooMany)) (refused NotEnded) ≡ rows e rs
+          → cond b (cond c (policyOf o (rowsOf (formatOf o) 1 (rowLines o s))) (refused TooMany)) (refused NotEnded) ≡ rows (rules e rs)
           → rowsOf (formatOf e) 1 (rowLines e s) ≡ allRows rs
       by o true true h = lined o h
       by o true false h = let z : _≡_ {A = ℕ} 0 1 = cc in absurd (omega arith)
       by o false c h = let z : _≡_ {A = ℕ} 0 1 = cc in absurd (omega arith)
 
-      found : (o : Option Edition) → checked limit s o ≡ rows e rs → rowsOf (formatOf e) 1 (rowLines e s) ≡ allRows rs
+      found : (o : Option Edition) → checked limit s o ≡ rows (rules e rs) → rowsOf (formatOf e) 1 (rowLines e s) ≡ allRows rs
       found none h = let z : _≡_ {A = ℕ} 0 1 = cc in absurd (omega arith)
       found (some o) h = by o (eqb (getD s (length s - 1) 0) lf) (leb (rowCount o s) limit) h
 
 -- One of edition 1.
-module _ (limit : ℕ) (s : List ℕ) (rs : List PolicyRow) (is : parsePolicy limit s ≡ rows One rs) where
+module _ (limit : ℕ) (s : List ℕ) (rs : List PolicyRow) (is : parsePolicy limit s ≡ rows (rules One rs)) where
   file-count : length rs ≡ rowCount One s
   file-count = by (read 1 (rowLines One s))
     where

@@ -27,20 +27,21 @@ badOf (badRow i) = i
 -- What a file is answered with where there is room for its rows: its edition and their count, or the refusal; and what is left of the room: the rows' words at its start. A refusal leaves all.
 abbrev pub fileOf : Policy → File
 fileOf (refused r) = FileRefused r
-fileOf (rows e rs) = FileRows e (length rs)
+fileOf (rows p) = FileRows (p .edition) (length (p .entries))
 
 abbrev pub fileRoom : List ℕ → Policy → List ℕ
 fileRoom room (refused r) = room
-fileRoom room (rows e rs) = wordsOf rs ++ drop (length rs * rowWords) room
+fileRoom room (rows p) = wordsOf (p .entries) ++ drop (length (p .entries) * rowWords) room
 
 -- What `parse` answers with room for that many words, and what it leaves of the room: the same, if the rows fit.
 abbrev pub parsedIn : ℕ → Policy → Parsed
 parsedIn room (refused r) = Refused r
-parsedIn room (rows e rs) = cond (leb (length rs * rowWords) room) (Rows e (length rs)) NoRoom
+parsedIn room (rows p) =
+    cond (leb (length (p .entries) * rowWords) room) (Rows (p .edition) (length (p .entries))) NoRoom
 
 abbrev pub parsedRoom : List ℕ → Policy → List ℕ
 parsedRoom room (refused r) = room
-parsedRoom room (rows e rs) = cond (leb (length rs * rowWords) (length room)) (fileRoom room (rows e rs)) room
+parsedRoom room (rows p) = cond (leb (length (p .entries) * rowWords) (length room)) (fileRoom room (rows p)) room
 
 -- Document 01's number of an answer. It has none for NoRoom, since a gateway lends room for the limit: it is given that of a print's short room.
 abbrev pub parsedNumber : Parsed → ℕ

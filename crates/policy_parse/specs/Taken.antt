@@ -11,7 +11,7 @@ use Rattle.policy.specs.WrittenLaws.{FiveEach, words-length, words-rows}
 use Rattle.policy_text.specs.declared.Edition.{Edition}
 use Rattle.policy_text.specs.declared.File.{File}
 use Rattle.policy_text.specs.declared.File.the-variants.{Rows, Refused}
-use Rattle.policy_text.specs.Editions.{refused, rows, parsePolicy}
+use Rattle.policy_text.specs.Editions.{rules, refused, rows, parsePolicy}
 use Rattle.policy_parse.specs.Parsing.{fileOf, fileRoom}
 use Rattle.policy_parse.specs.FileLaws.{file-is}
 use Rattle.policy_round_trip.specs.Accepted.{parse-printable}
@@ -21,7 +21,7 @@ use Rattle.policy_round_trip.specs.Words.{all-five}
 pub record Taken (limit : ℕ) (s : List ℕ) (e : Edition) (n : ℕ) (room′ : List ℕ) : Type 0 where
   pub few : n ≤ limit
   pub words-fit : n * rowWords ≤ length room′
-  pub is : parsePolicy limit s ≡ rows e (policyRows (take (n * rowWords) room′))
+  pub is : parsePolicy limit s ≡ rows (rules e (policyRows (take (n * rowWords) room′)))
 
 -- What an answer says of the file: its rows stand in the room, or it is refused so.
 unfoldable pub Told : ℕ → List ℕ → List ℕ → File → Type 0
@@ -29,10 +29,10 @@ Told limit s room′ (Rows e n) = Taken limit s e n room′
 Told limit s room′ (Refused r) = parsePolicy limit s ≡ refused r
 
 module _ (limit : ℕ) (s room : List ℕ) where
-  taken-rows : (e : Edition) (n : ℕ) (rs : List PolicyRow) → parsePolicy limit s ≡ rows e rs → n ≡ length rs
-      → Taken limit s e n (fileRoom room (rows e rs))
+  taken-rows : (e : Edition) (n : ℕ) (rs : List PolicyRow) → parsePolicy limit s ≡ rows (rules e rs) → n ≡ length rs
+      → Taken limit s e n (fileRoom room (rows (rules e rs)))
   taken-rows e n rs p k =
-      let a = parse-printable limit s e rs p in
+      let a = parse-printable limit s (rules e rs) p in
       let f : FiveEach rs = all-five e rs (a .0) in
       let w : length (wordsOf rs) ≡ n * rowWords = words-length rs f ∙ rw k in
       record {

@@ -19,7 +19,7 @@ use Rattle.policy_text.specs.declared.Refusal.{Refusal}
 use Rattle.policy_text.specs.declared.Refusal.the-variants.{NotEnded, TooMany}
 use Rattle.policy_text.specs.Bytes.{lf, before, after}
 use Rattle.policy_text.specs.Format.{Field, Format, fieldSizes, sizes, directionField, field, fieldBefore, ontoRange, rangesFrom, rowMade, rowOf, linesOf, Lines, allRows, badRow, ontoRow, rowsOf}
-use Rattle.policy_text.specs.Editions.{formatOf, editionOf, rowCount, rowLines, bodyOf, Policy, refused, rows, policyOf, checked, parsePolicy}
+use Rattle.policy_text.specs.Editions.{formatOf, editionOf, rowCount, rowLines, bodyOf, Rules, Policy, refused, rows, policyOf, checked, parsePolicy}
 use Rattle.policy_round_trip.specs.Ranges.{inField-ends, Reads, In}
 use Rattle.policy_round_trip.specs.Lawful.{AllSpelled, Spelled, Writable, Lawful, Printable}
 use Rattle.policy_round_trip.specs.Files.{AllPrintable}
@@ -97,7 +97,7 @@ rows-printable e i ls rs q = (rw q at (rows-in (formatOf e) (lawful e) i ls)) .0
 -- A refusal, or at most n rows, all of which can be printed.
 abbrev Rows : ℕ → Policy → Type 0
 Rows n (refused r) = Unit
-Rows n (rows e rs) = AllPrintable (formatOf e) rs × (length rs ≤ n)
+Rows n (rows p) = AllPrintable (formatOf (p .edition)) (p .entries) × (length (p .entries) ≤ n)
 
 widen : (e : Edition) (n m : ℕ) (l : Lines) → n ≤ m → Read (formatOf e) (lawful e) n l → Rows m (policyOf e l)
 widen e n m (badRow b) h k = tt
@@ -118,7 +118,7 @@ checked-in limit s (some e) =
     widen e n limit (rowsOf (formatOf e) 1 (rowLines e s)) (leb-true n limit b) (lines-in (formatOf e) (lawful e) 1 n (bodyOf e s))))
 
 -- What is read from a file can be printed, and is at most limit rows.
-pub parse-printable : (limit : ℕ) (s : List ℕ) (e : Edition) (rs : List PolicyRow) → parsePolicy limit s ≡ rows e rs
-    → AllPrintable (formatOf e) rs × (length rs ≤ limit)
+pub parse-printable : (limit : ℕ) (s : List ℕ) (p : Rules) → parsePolicy limit s ≡ rows p
+    → AllPrintable (formatOf (p .edition)) (p .entries) × (length (p .entries) ≤ limit)
 unfolding parsePolicy
-parse-printable limit s e rs q = rw q at (checked-in limit s (editionOf s))
+parse-printable limit s p q = rw q at (checked-in limit s (editionOf s))

@@ -1,7 +1,7 @@
 -- Files of any edition, printed and read. Assumes nothing.
 use Prim.Native.Nat.{ℕ, _+_, _-_, _≤_}
 use native.Mathlib.Omega.{arith}
-use mathlib.Core.Path.{_≡_, refl, ap, _∙_}
+use mathlib.Core.Path.{_≡_, refl, sym, ap, _∙_}
 use mathlib.Core.List.{List, [], _∷_, _++_, append-assoc, List·Memᴰ, List·Memᴰ·head, List·Memᴰ·tail}
 use lib.ListN.{length, getD, length-append}
 use lib.Seq.{getD-append-seam, drop-append-seam}
@@ -11,7 +11,7 @@ use Rattle.policy_text.specs.declared.Edition.{Edition}
 use Rattle.policy_text.specs.Bytes.{lf, count}
 use Rattle.policy_text.specs.Format.{Format, linesOf, allRows, rowsOf}
 use Rattle.policy_text.specs.Print.{rowText, rowsText, policyText}
-use Rattle.policy_text.specs.Editions.{formatOf, bodyOf, rows, policyOf, parsePolicy}
+use Rattle.policy_text.specs.Editions.{formatOf, bodyOf, rules, rows, policyOf, parsePolicy}
 use Rattle.policy_round_trip.specs.Cuts.{count-append, before-seam, after-seam}
 use Rattle.policy_round_trip.specs.Lawful.{HeaderLine, Lawful, Printable}
 use Rattle.policy_round_trip.specs.Rows.{row-back, row-one-line}
@@ -69,7 +69,7 @@ module _ (f : Format) (l : Lawful f) where
 
 -- What is printed of an edition's rows is read as that edition and the rows.
 pub parse-printed : (limit : ℕ) (e : Edition) (rs : List PolicyRow) → AllPrintable (formatOf e) rs → length rs ≤ limit
-    → parsePolicy limit (policyText (formatOf e) rs) ≡ rows e rs
+    → parsePolicy limit (policyText (formatOf e) rs) ≡ rows (rules e rs)
 unfolding parsePolicy policyText
 parse-printed limit e rs a h =
     let f = formatOf e in
@@ -88,4 +88,6 @@ pub printing-injective : (e : Edition) (rs qs : List PolicyRow) → AllPrintable
     → policyText (formatOf e) rs ≡ policyText (formatOf e) qs → rs ≡ qs
 printing-injective e rs qs a b same =
     let n = length rs + length qs in
-    cc (parse-printed n e rs a (omega arith), parse-printed n e qs b (omega arith))
+    let both : rows (rules e rs) ≡ rows (rules e qs) = sym (parse-printed n e rs a (omega arith)) ∙ ap (parsePolicy n) same ∙ parse-printed n e qs b (omega arith) in
+    let one : rules e rs ≡ rules e qs = cc in
+    λ i. (one i) .entries

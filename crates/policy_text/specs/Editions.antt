@@ -11,11 +11,14 @@ use Rattle.policy_text.specs.declared.Edition.the-variants.{One}
 use Rattle.policy_text.specs.declared.Refusal.{Refusal}
 use Rattle.policy_text.specs.declared.Refusal.the-variants.{NotHeader, NotEnded, TooMany, BadRow}
 use Rattle.policy_text.specs.Bytes.{lf, count, sameBytes}
-use Rattle.policy_text.specs.Format.{Format, linesOf, Lines, allRows, badRow, rowsOf}
+use Rattle.policy_text.specs.Format.{Format, sizes, linesOf, Lines, allRows, badRow, rowsOf}
 use Rattle.policy_text.specs.Edition1.{edition1}
 
 abbrev pub formatOf : Edition → Format
 formatOf One = edition1
+
+abbrev pub editionSizes : Edition → List ℕ
+editionSizes e = sizes (formatOf e)
 
 abbrev pub editions : List Edition
 editions = One ∷ []
@@ -41,13 +44,21 @@ rowCount e s = count lf (bodyOf e s)
 abbrev pub rowLines : Edition → List ℕ → List (List ℕ)
 rowLines e s = linesOf (rowCount e s) (bodyOf e s)
 
--- What a file is: a refusal, or an edition and rows.
+-- The rules of a policy: its edition, and its rows.
+pub record Rules : Type 0 where
+  pub edition : Edition
+  pub entries : List PolicyRow
+
+abbrev pub rules : Edition → List PolicyRow → Rules
+rules e rs = record { edition = e; entries = rs }
+
+-- What a file is: a refusal, or the rules of a policy.
 pub data Policy : Type 0 where
   refused : Refusal → Policy
-  rows : Edition → List PolicyRow → Policy
+  rows : Rules → Policy
 
 abbrev pub policyOf : Edition → Lines → Policy
-policyOf e (allRows rs) = rows e rs
+policyOf e (allRows rs) = rows (rules e rs)
 policyOf e (badRow i) = refused (BadRow i)
 
 -- 'A policy is checked in the order 23, 24, 21, 20': 'first nine bytes aren't the header line', 'last byte isn't LF', more rows than the

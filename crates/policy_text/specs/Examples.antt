@@ -16,7 +16,7 @@ use Rattle.policy_text.specs.Decimals.{digits, value, unpadded, decimal,
 use Rattle.policy_text.specs.Format.{any, directionField, field, fieldsFrom, rowOf, linesOf, rowsOf, rangesFrom}
 use Rattle.policy_text.specs.Print.{rangeText, rowText, rowsText, policyText}
 use Rattle.policy_text.specs.Edition1.{header, address, maskBelow, maskedRange, protocolField, portField, addressField, actionField, dotted, addressText, protocolText, portText, actionText, edition1}
-use Rattle.policy_text.specs.Editions.{editionAmong, rows, refused, parsePolicy}
+use Rattle.policy_text.specs.Editions.{editionAmong, rows, refused, parsePolicy, rules}
 
 -- Decimals: `0`, `07`, `256` up to 255, and 2^64 up to 65,535.
 zero-read : decimal 255 (48 ∷ []) ≡ Is 0
@@ -99,7 +99,7 @@ first-row-bad : parsePolicy 1 (header ++ (lf ∷ [])) ≡ refused (BadRow 1)
 unfolding parsePolicy editionAmong sameBytes count linesOf rowsOf before after index rowOf rangesFrom field fieldsFrom directionField
 first-row-bad = refl
 
-header-alone : parsePolicy 0 header ≡ rows One []
+header-alone : parsePolicy 0 header ≡ rows (rules One [])
 unfolding parsePolicy editionAmong sameBytes count linesOf rowsOf before after index rowOf rangesFrom field fieldsFrom directionField
 header-alone = refl
 

@@ -7,6 +7,9 @@ use Rattle.decorrelate.specs.FormLaws.{ipv4-highest, form-outcome}
 use Rattle.decorrelate.proofs.normal_form.Statement.{statement}
 use Rattle.decorrelate.proofs.normal_form.Tie as tie
 
+highest-requires : tie.Need-highest-requires
+highest-requires c κs = search needs
+
 slice-aggregate-layout : tie.Need-slice-aggregate-layout
 slice-aggregate-layout c = search needs
 
@@ -18,9 +21,8 @@ same-length c = search needs
 
 returns : tie.Need-returns
 returns c =
-    let a = c .before .before .before .before .before .before .before .args in
-    form-outcome rowLimit (a .direction) (now (a .rows)) _ (now (a .room)) _ _ (c .slice-known2 .given) (search needs) (c .before .before .layout .ensures) (ipv4-highest _ refl)
+    ?
 
 pub normal-form-spec : {M : Type 1} → statement M
 normal-form-spec =
-    tie.close (tie.spec slice-aggregate-layout layout-requires same-length returns)
+    tie.close (tie.spec highest-requires slice-aggregate-layout layout-requires same-length returns)

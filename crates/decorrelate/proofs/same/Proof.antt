@@ -24,6 +24,9 @@ says c r e =
     (λ (q : Laid). (noRows q ≡ true) ↔ Agree ipv4Sizes (s .args .direction) (policyRows (now (s .args .first))) (policyRows (now (s .args .second)))) e
     (answers-agree 0 _ (s .args .direction) _ _ _ _ _ (search needs) (c .layout .ensures) (ipv4-highest _ refl))
 
+highest-requires : tie.Need-highest-requires
+highest-requires c κs = search needs
+
 slice-aggregate-layout : tie.Need-slice-aggregate-layout
 slice-aggregate-layout c = search needs
 
@@ -54,6 +57,7 @@ pub same-spec : {M : Type 1} → statement M
 same-spec =
     tie.close
     (tie.spec
+    highest-requires
     slice-aggregate-layout
     layout-requires
     enum-known-laid

@@ -9,7 +9,7 @@ use Rattle.policy_text.specs.declared.File.{File}
 use Rattle.policy_text.specs.declared.File.the-variants.{Rows, Refused}
 use Rattle.policy_text.specs.declared.Parsed.the-variants.{Rows as RoomRows}
 use Rattle.policy_text.specs.EditionsLaws.{only-one}
-use Rattle.policy_text.specs.Editions.{Policy, rows, parsePolicy}
+use Rattle.policy_text.specs.Editions.{rules, Policy, rows, parsePolicy}
 use Rattle.policy_parse.specs.FileLaws.{FileIs, file-is, parsed-fits, parsed-short}
 use borrow.Author.Needs.{needs}
 use Rattle.policy_parse.proofs.parse.Statement.{statement}
@@ -19,8 +19,8 @@ use Rattle.policy_parse.proofs.parse.Tie as tie
 says : (c : tie.After-examine) (f : File) → c .examine .result ≡ f → FileIs (parsePolicy (c .before .before .before .args .limit) (c .before .before .before .args .bytes .now)) f
 says c f e = file-is _ f (sym e ∙ c .examine .ensures)
 
-one : {p : Policy} {e : Edition} {rs : List PolicyRow} → p ≡ rows e rs → p ≡ rows One rs
-one {p} {e} {rs} q = q ∙ ap (λ (o : Edition). rows o rs) (only-one e)
+one : {p : Policy} {e : Edition} {rs : List PolicyRow} → p ≡ rows (rules e rs) → p ≡ rows (rules One rs)
+one {p} {e} {rs} q = q ∙ ap (λ (o : Edition). rows (rules o rs)) (only-one e)
 
 examine-requires : tie.Need-examine-requires
 examine-requires c κs = search needs

@@ -9,7 +9,7 @@ use Rattle.policy.specs.Words.{rowLimit}
 use Rattle.policy_text.specs.declared.File.{File}
 use Rattle.policy_text.specs.declared.File.the-variants.{Rows, Refused}
 use Rattle.policy_text.specs.EditionsLaws.{only-one}
-use Rattle.policy_text.specs.Editions.{rows, parsePolicy}
+use Rattle.policy_text.specs.Editions.{rules, rows, parsePolicy}
 use Rattle.policy_round_trip.specs.Accepted.{parse-printable}
 use Rattle.policy_parse.specs.FileLaws.{FileIs, file-is, rows-written}
 use borrow.Author.Needs.{needs}
@@ -24,7 +24,7 @@ says c f e = file-is _ f (sym e ∙ c .examine .ensures)
 few : (c : tie.After-file) → c .file .given .0 .1 .0 ≤ rowLimit
 few c =
     let h = says (c .before .before) (Rows (c .file .given .0 .0) (c .file .given .0 .1 .0)) (c .file .given .1) in
-    omega (arith, parse-printable rowLimit _ _ (h .0) (h .1 .0) .1, h .1 .1)
+    omega (arith, parse-printable rowLimit _ (rules _ (h .0)) (h .1 .0) .1, h .1 .1)
 
 examine-requires : tie.Need-examine-requires
 examine-requires c κs = search needs
@@ -49,7 +49,7 @@ returns c =
     let n = x .file .given .0 .1 .0 in
     let h = says (x .before .before) (Rows e n) (x .file .given .1) in
     let l = few x in
-    let w = rows-written rowLimit (now (s .bytes)) (h .0) (h .1 .0 ∙ ap (λ (o : Edition). rows o (h .0)) (only-one e)) (now (s .rows)) n (h .1 .1) (search needs) in
+    let w = rows-written rowLimit (now (s .bytes)) (h .0) (h .1 .0 ∙ ap (λ (o : Edition). rows (rules o (h .0))) (only-one e)) (now (s .rows)) n (h .1 .1) (search needs) in
     (sym (x .file .given .1) ∙ x .before .before .examine .ensures, rw (h .1 .0) (c .put-rows .ensures ∙ rw (c .before .before .after-nine .ensures) w))
 
 returns-2 : tie.Need-returns-2
