@@ -7,7 +7,7 @@ use Rattle.decorrelate.proofs.highest.Statement.{statement}
 use Rattle.decorrelate.proofs.highest.Tie as tie
 
 returns : tie.Need-returns
-returns c = ?
+returns c = ipv4-highest _ refl ∙ ap editionSizes (sym (only-one (c .args .edition)))
 
 pub highest-spec : {M : Type 1} → statement M
 highest-spec = tie.close (tie.spec returns)

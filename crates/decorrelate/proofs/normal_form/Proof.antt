@@ -1,9 +1,9 @@
 -- `decorrelate::normal_form` meets its contract: a normal form is the difference from the policy without rows. Assumes nothing.
-use mathlib.Core.Path.{refl}
+use native.Mathlib.Omega.{arith}
 use denote.Ref.{now}
 use borrow.Author.Needs.{needs}
 use Rattle.policy.specs.Words.{rowLimit}
-use Rattle.decorrelate.specs.FormLaws.{ipv4-highest, form-outcome}
+use Rattle.decorrelate.specs.FormLaws.{form-outcome}
 use Rattle.decorrelate.proofs.normal_form.Statement.{statement}
 use Rattle.decorrelate.proofs.normal_form.Tie as tie
 
@@ -21,7 +21,10 @@ same-length c = search needs
 
 returns : tie.Need-returns
 returns c =
-    ?
+    let h = c .before .before .before .before .before .before .before in
+    let a = h .before .args in
+    let fits = c .slice-known2 .given in
+    form-outcome rowLimit (a .direction) (a .edition) (now (a .rows)) _ (now (a .room)) _ _ (λ i. omega (arith, fits i)) (search needs) (c .before .before .layout .ensures) (h .highest .ensures)
 
 pub normal-form-spec : {M : Type 1} → statement M
 normal-form-spec =
