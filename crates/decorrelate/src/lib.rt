@@ -71,7 +71,12 @@ fn fill(words: &mut [u64], from: &[u64], used: usize)
 
 // The normal form of a policy of that edition for a direction in a room for the limit's rows: its words, and zeros after them. More rows than
 // the limit leave the room as it was.
-pub fn form_of(edition: Edition, rows: &[u64], direction: Direction, form: &mut [u64; POLICY_WORDS]) -> Form
+pub fn form_of(
+    edition: Edition,
+    rows: &[u64],
+    direction: Direction,
+    form: &mut [u64; POLICY_WORDS],
+) -> Form
     ensures { λ r. ⌜ r ≡ formAnswer rowLimit direction (rules edition (policyRows (now (rows .entry)))) ⌝ }
     ensures { λ _. ⌜ now (form .exit) ≡ formAfter rowLimit rowLimit direction (rules edition (policyRows (now (rows .entry)))) (now (form .entry)) ⌝ }
 {

@@ -5,16 +5,16 @@ use mathlib.Core.List.{List, _++_}
 use lib.Dec.{leb}
 use lib.ListN.{length, drop}
 use Rattle.selectors.specs.declared.Direction.{Direction}
-use Rattle.policy.specs.Policy.{PolicyRow, asPolicy}
-use Rattle.policy_text.specs.Editions.{Policy, refused, rows, refusalNumber, refusalCarries}
+use Rattle.policy.specs.Policy.{asPolicy}
+use Rattle.policy_text.specs.Editions.{formatOf, Rules, Policy, refused, rows, refusalNumber, refusalCarries}
 use Rattle.policy_text.specs.Print.{policyText}
 use Rattle.decorrelate.specs.Form.{form, directionNumber}
 use Rattle.normaliser.specs.declared.Normalised.{Normalised}
 use Rattle.normaliser.specs.declared.Normalised.the-variants.{Printed, Refused, TooLarge, NoRoom}
 
--- 'The normal-form file is that, printed.'
-abbrev pub formFile : Direction → List PolicyRow → List ℕ
-formFile d rs = policyText (asPolicy d (form d rs))
+-- 'The normal-form file is that, printed', in the policy's own edition.
+abbrev pub formFile : Direction → Rules → List ℕ
+formFile d rs = policyText (formatOf (rs .edition)) (asPolicy d (form d rs))
 
 -- 'A call for one way alone tries 22 for that way only; 31 comes last.'
 abbrev pub normalised : ℕ → Direction → ℕ → Policy → Normalised
@@ -25,7 +25,7 @@ normalised limit d room (rows rs) =
     (TooLarge d)
 
 -- What stands in the lent bytes afterwards: 'a print that succeeds writes its bytes at the start and leaves the rest'; a refusal leaves all.
-abbrev pub bytesAfter : Direction → List PolicyRow → Normalised → List ℕ → List ℕ
+abbrev pub bytesAfter : Direction → Rules → Normalised → List ℕ → List ℕ
 bytesAfter d rs (Printed n) room = formFile d rs ++ drop n room
 bytesAfter d rs (Refused r) room = room
 bytesAfter d rs (TooLarge w) room = room

@@ -2,7 +2,7 @@
 ghost use mathlib.Core.Path.{_≡_};
 ghost use lib.ListN.{length};
 ghost use Rattle.policy.specs.Words.{policyRows, rowLimit};
-ghost use Rattle.policy_text.specs.Editions.{rows, parsePolicy};
+ghost use Rattle.policy_text.specs.Editions.{rules, rows, parsePolicy};
 ghost use Rattle.policy_print.specs.Printing.{printed, printedIn, printedRoom};
 ghost use Rattle.normaliser.specs.Normalise.{normalised, normalisedBytes};
 ghost use Rattle.normaliser.specs.Steps.{answered};
@@ -10,6 +10,7 @@ use decorrelate::Form;
 use policy::POLICY_WORDS;
 use policy::ROW_WORDS;
 use policy_print::Printed;
+use policy_text::Edition;
 use policy_text::File;
 use policy_text::Refusal;
 use selectors::Direction;
@@ -25,26 +26,26 @@ pub enum Normalised {
     NoRoom,
 }
 
-fn print_rows(rows: &[u64], direction: Direction, out: &mut [u8]) -> Normalised
-    ensures { λ r. ⌜ r ≡ answered (printedIn (length (now (out .entry))) (printed direction (policyRows (now (rows .entry))))) ⌝ }
-    ensures { λ _. ⌜ now (out .exit) ≡ printedRoom (now (out .entry)) (printed direction (policyRows (now (rows .entry)))) ⌝ }
+fn print_rows(edition: Edition, rows: &[u64], direction: Direction, out: &mut [u8]) -> Normalised
+    ensures { λ r. ⌜ r ≡ answered (printedIn (length (now (out .entry))) (printed edition direction (policyRows (now (rows .entry))))) ⌝ }
+    ensures { λ _. ⌜ now (out .exit) ≡ printedRoom (now (out .entry)) (printed edition direction (policyRows (now (rows .entry)))) ⌝ }
 {
-    let done = policy_print::print(rows, direction, out);
+    let done = policy_print::print(edition, rows, direction, out);
     match done {
         Printed::Bytes(count) => Normalised::Printed(count),
         Printed::NoRoom => Normalised::NoRoom,
     }
 }
 
-// Lays a policy's rows out and prints them.
-fn print_form(policy: &[u64], direction: Direction, out: &mut [u8]) -> Normalised
-    ensures { λ r. ⌜ r ≡ normalised rowLimit direction (length (now (out .entry))) (rows (policyRows (now (policy .entry)))) ⌝ }
-    ensures { λ _. ⌜ now (out .exit) ≡ normalisedBytes rowLimit direction (now (out .entry)) (rows (policyRows (now (policy .entry)))) ⌝ }
+// Lays a policy's rows out and prints them in its edition.
+fn print_form(edition: Edition, policy: &[u64], direction: Direction, out: &mut [u8]) -> Normalised
+    ensures { λ r. ⌜ r ≡ normalised rowLimit direction (length (now (out .entry))) (rows (rules edition (policyRows (now (policy .entry))))) ⌝ }
+    ensures { λ _. ⌜ now (out .exit) ≡ normalisedBytes rowLimit direction (now (out .entry)) (rows (rules edition (policyRows (now (policy .entry))))) ⌝ }
 {
     let mut words = [0u64; POLICY_WORDS];
-    let form = decorrelate::form_of(policy, direction, &mut words);
+    let form = decorrelate::form_of(edition, policy, direction, &mut words);
     match form {
-        Form::Rows(n) => print_rows(&words[..n * ROW_WORDS], direction, out),
+        Form::Rows(n) => print_rows(edition, &words[..n * ROW_WORDS], direction, out),
         Form::Over => Normalised::TooLarge(direction),
     }
 }
@@ -57,7 +58,7 @@ pub fn normalise(bytes: &[u8], direction: Direction, out: &mut [u8]) -> Normalis
     let mut policy = [0u64; POLICY_WORDS];
     let file = policy_parse::parse_policy(bytes, &mut policy);
     match file {
-        File::Rows(n) => print_form(&policy[..n * ROW_WORDS], direction, out),
+        File::Rows(edition, n) => print_form(edition, &policy[..n * ROW_WORDS], direction, out),
         File::Refused(refusal) => Normalised::Refused(refusal),
     }
 }

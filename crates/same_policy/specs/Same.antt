@@ -1,10 +1,9 @@
 -- Whether two policy files are the same policy in a direction. Assumes nothing: these are definitions.
 use Prim.Native.Nat.{ℕ}
 use mathlib.Core.List.{List, [], _∷_}
-use Rattle.selectors.specs.Range.{ipv4Sizes}
 use Rattle.selectors.specs.declared.Direction.{Direction}
 use Rattle.normal_form.specs.Search.{Row}
-use Rattle.policy_text.specs.Editions.{Policy, refused, rows, refusalNumber, refusalCarries}
+use Rattle.policy_text.specs.Editions.{editionSizes, Policy, refused, rows, refusalNumber, refusalCarries}
 use Rattle.layout.specs.Parting.{Parting, differenceForm}
 use Rattle.same_policy.specs.declared.Compared.{Compared}
 use Rattle.same_policy.specs.declared.Compared.the-variants.{Same, Different, FirstRefused, SecondRefused}
@@ -14,11 +13,12 @@ abbrev pub byDifference : List (Row Parting) → Compared
 byDifference [] = Same
 byDifference (r ∷ D) = Different
 
--- What comparing two files answers: the first file's refusal, then the second's, then whether the policies differ.
+-- What comparing two files answers: the first file's refusal, then the second's, then whether the policies differ, over the fields of their
+-- edition. (There is one, so that two policies are of one edition.)
 abbrev pub compared : Direction → Policy → Policy → Compared
 compared d (refused p) other = FirstRefused p
 compared d (rows rs) (refused q) = SecondRefused q
-compared d (rows rs) (rows qs) = byDifference (differenceForm ipv4Sizes d rs qs)
+compared d (rows rs) (rows qs) = byDifference (differenceForm (editionSizes (rs .edition)) d (rs .entries) (qs .entries))
 
 -- Document 01's number of an answer.
 abbrev pub comparedNumber : Compared → ℕ

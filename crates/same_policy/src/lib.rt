@@ -1,10 +1,11 @@
 // Whether two policy files are the same policy in a direction: every search of one gives what it gives of the other.
 ghost use mathlib.Core.Path.{_≡_};
 ghost use Rattle.policy.specs.Words.{policyRows, rowLimit};
-ghost use Rattle.policy_text.specs.Editions.{rows as rowsIn, parsePolicy};
+ghost use Rattle.policy_text.specs.Editions.{rules, rows as rowsIn, parsePolicy};
 ghost use Rattle.same_policy.specs.Same.{compared};
 use policy::POLICY_WORDS;
 use policy::ROW_WORDS;
+use policy_text::Edition;
 use policy_text::File;
 use policy_text::Refusal;
 use selectors::Direction;
@@ -17,11 +18,11 @@ pub enum Compared {
     SecondRefused(Refusal),
 }
 
-// Compares the rows of two policies.
-fn compare_rows(first: &[u64], second: &[u64], direction: Direction) -> Compared
-    ensures { λ r. ⌜ r ≡ compared direction (rowsIn (policyRows (now (first .entry)))) (rowsIn (policyRows (now (second .entry)))) ⌝ }
+// Compares the rows of two policies of one edition.
+fn compare_rows(edition: Edition, first: &[u64], second: &[u64], direction: Direction) -> Compared
+    ensures { λ r. ⌜ r ≡ compared direction (rowsIn (rules edition (policyRows (now (first .entry))))) (rowsIn (rules edition (policyRows (now (second .entry))))) ⌝ }
 {
-    let same = decorrelate::same(first, second, direction);
+    let same = decorrelate::same(edition, first, second, direction);
     if same {
         return Compared::Same;
     }
@@ -29,13 +30,13 @@ fn compare_rows(first: &[u64], second: &[u64], direction: Direction) -> Compared
 }
 
 // Compares a policy's rows with a file.
-fn compare_file(first: &[u64], second: &[u8], direction: Direction) -> Compared
-    ensures { λ r. ⌜ r ≡ compared direction (rowsIn (policyRows (now (first .entry)))) (parsePolicy rowLimit (now (second .entry))) ⌝ }
+fn compare_file(edition: Edition, first: &[u64], second: &[u8], direction: Direction) -> Compared
+    ensures { λ r. ⌜ r ≡ compared direction (rowsIn (rules edition (policyRows (now (first .entry))))) (parsePolicy rowLimit (now (second .entry))) ⌝ }
 {
     let mut room = [0u64; POLICY_WORDS];
     let file = policy_parse::parse_policy(second, &mut room);
     match file {
-        File::Rows(n) => compare_rows(first, &room[..n * ROW_WORDS], direction),
+        File::Rows(_, n) => compare_rows(edition, first, &room[..n * ROW_WORDS], direction),
         File::Refused(refusal) => Compared::SecondRefused(refusal),
     }
 }
@@ -47,7 +48,7 @@ pub fn same_policy(first: &[u8], second: &[u8], direction: Direction) -> Compare
     let mut room = [0u64; POLICY_WORDS];
     let file = policy_parse::parse_policy(first, &mut room);
     match file {
-        File::Rows(n) => compare_file(&room[..n * ROW_WORDS], second, direction),
+        File::Rows(edition, n) => compare_file(edition, &room[..n * ROW_WORDS], second, direction),
         File::Refused(refusal) => Compared::FirstRefused(refusal),
     }
 }

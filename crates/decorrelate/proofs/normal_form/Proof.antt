@@ -21,8 +21,8 @@ same-length c = search needs
 
 returns : tie.Need-returns
 returns c =
-    let h = c .before .before .before .before .before .before .before in
-    let a = h .before .args in
+    let h = c .before .before .before .before .before in
+    let a = h .before .before .before .args in
     let fits = c .slice-known2 .given in
     form-outcome rowLimit (a .direction) (a .edition) (now (a .rows)) _ (now (a .room)) _ _ (λ i. omega (arith, fits i)) (search needs) (c .before .before .layout .ensures) (h .highest .ensures)
 

@@ -21,7 +21,7 @@ says c r e =
     let s = c .before .before .before .before .before in
     subst
     (λ (q : Laid). (noRows q ≡ true) ↔ Agree (editionSizes (s .args .edition)) (s .args .direction) (policyRows (now (s .args .first))) (policyRows (now (s .args .second)))) e
-    (answers-agree 0 (editionSizes (s .args .edition)) _ (s .args .direction) _ _ _ _ _ (search needs) (c .layout .ensures) (c .before .before .before .before .highest .ensures))
+    (answers-agree 0 (editionSizes (s .args .edition)) _ (s .args .direction) _ _ _ _ _ (search needs) (c .layout .ensures) (c .before .before .highest .ensures))
 
 highest-requires : tie.Need-highest-requires
 highest-requires c κs = search needs

@@ -3,13 +3,15 @@ use Prim.Native.Nat.{ℕ, _*_, _≤_}
 use native.Mathlib.Omega.{arith}
 use mathlib.Core.Path.{_≡_, refl, sym, ap, subst, _∙_}
 use mathlib.Core.List.{List}
-use lib.ListN.{length, length-take}
+use lib.ListN.{length, take, length-take}
 use denote.Ref.{now}
 use Rattle.policy.specs.Words.{policyRows, rowLimit}
 use Rattle.policy_text.specs.declared.File.{File}
 use Rattle.policy_text.specs.declared.File.the-variants.{Rows, Refused}
 use Rattle.policy_parse.specs.Taken.{Taken, Told, told}
-use Rattle.policy_text.specs.Editions.{Policy, rows}
+use Rattle.policy_text.specs.Editions.{rules, Policy, rows}
+use Rattle.policy_text.specs.EditionsLaws.{only-one}
+use Rattle.policy_text.specs.declared.Edition.{Edition}
 use Rattle.same_policy.specs.Same.{compared}
 use borrow.Author.Needs.{needs}
 use Rattle.same_policy.proofs.compare_file.Statement.{statement}
@@ -21,11 +23,11 @@ says c f e =
     let s = now (c .before .before .before .before .args .second) in
     subst (λ (room : List ℕ). Told rowLimit s room f) (sym (c .parse-policy .ensures .1)) (told rowLimit s _ f (sym e ∙ c .parse-policy .ensures .0))
 
-got : (c : tie.After-file) → Taken rowLimit (now (c .before .before .before .before .before .before .args .second)) (c .file .given .0 .0) (c .before .before .parse-policy .last .1 .0)
+got : (c : tie.After-file) → Taken rowLimit (now (c .before .before .before .before .before .before .args .second)) (c .file .given .0 .0) (c .file .given .0 .1 .0) (c .before .before .parse-policy .last .1 .0)
 unfolding Told
-got c = says (c .before .before) (Rows (c .file .given .0 .0)) (c .file .given .1)
+got c = says (c .before .before) (Rows (c .file .given .0 .0) (c .file .given .0 .1 .0)) (c .file .given .1)
 
-fits : (c : tie.After-known-told) → c .before .file .given .0 .0 * 22 ≤ length (c .before .before .before .parse-policy .last .1 .0)
+fits : (c : tie.After-known-told) → c .before .file .given .0 .1 .0 * 22 ≤ length (c .before .before .before .parse-policy .last .1 .0)
 fits c = got (c .before) .words-fit
 
 parse-policy-requires : tie.Need-parse-policy-requires
@@ -53,7 +55,11 @@ returns : tie.Need-returns
 returns c =
     let k = c .before .before .before in
     let s = k .before .before .before .before .before .before in
-    c .compare-rows .ensures ∙ ap (λ (f : Policy). compared (s .args .direction) (rows (policyRows (now (s .args .first)))) f) (sym (got k .is))
+    let first = rules (s .args .edition) (policyRows (now (s .args .first))) in
+    let one : s .args .edition ≡ k .file .given .0 .0 = only-one _ ∙ sym (only-one _) in
+    c .compare-rows .ensures
+    ∙ ap (λ (e : Edition). compared (s .args .direction) (rows first) (rows (rules e (policyRows (take (k .file .given .0 .1 .0 * 22) (k .before .before .parse-policy .last .1 .0)))))) one
+    ∙ ap (λ (f : Policy). compared (s .args .direction) (rows first) f) (sym (got k .is))
 
 returns-2 : tie.Need-returns-2
 unfolding Told

@@ -21,11 +21,11 @@ says c f e =
     let s = now (c .before .before .before .before .args .first) in
     subst (λ (room : List ℕ). Told rowLimit s room f) (sym (c .parse-policy .ensures .1)) (told rowLimit s _ f (sym e ∙ c .parse-policy .ensures .0))
 
-got : (c : tie.After-file) → Taken rowLimit (now (c .before .before .before .before .before .before .args .first)) (c .file .given .0 .0) (c .before .before .parse-policy .last .1 .0)
+got : (c : tie.After-file) → Taken rowLimit (now (c .before .before .before .before .before .before .args .first)) (c .file .given .0 .0) (c .file .given .0 .1 .0) (c .before .before .parse-policy .last .1 .0)
 unfolding Told
-got c = says (c .before .before) (Rows (c .file .given .0 .0)) (c .file .given .1)
+got c = says (c .before .before) (Rows (c .file .given .0 .0) (c .file .given .0 .1 .0)) (c .file .given .1)
 
-fits : (c : tie.After-known-told) → c .before .file .given .0 .0 * 22 ≤ length (c .before .before .before .parse-policy .last .1 .0)
+fits : (c : tie.After-known-told) → c .before .file .given .0 .1 .0 * 22 ≤ length (c .before .before .before .parse-policy .last .1 .0)
 fits c = got (c .before) .words-fit
 
 parse-policy-requires : tie.Need-parse-policy-requires
