@@ -1,10 +1,10 @@
--- `sad::has_ranges` meets its contract: range by range, as the definition goes. Assumes nothing.
+-- `sad::are_ranges` meets its contract: range by range, as the definition goes. Assumes nothing.
 use Rattle.sad.specs.Pairs.{rangesIn}
 use borrow.Author.Tests.{not-true, not-false}
 use mathlib.Core.Path.{sym, _∙_}
 use borrow.Author.Needs.{needs}
-use Rattle.sad.proofs.has_ranges.Statement.{statement}
-use Rattle.sad.proofs.has_ranges.Tie as tie
+use Rattle.sad.proofs.are_ranges.Statement.{statement}
+use Rattle.sad.proofs.are_ranges.Tie as tie
 
 is-address-range-requires : tie.Need-is-address-range-requires
 is-address-range-requires c κs = search needs
@@ -62,8 +62,8 @@ returns-5 c =
       sym (c .before .before .is-port-range .ensures) ∙ not-false _ (c .before .if4 .left),
     ) (c .is-port-range2 .ensures)
 
-pub has-ranges-spec : {M : Type 1} → statement M
-has-ranges-spec =
+pub are-ranges-spec : {M : Type 1} → statement M
+are-ranges-spec =
     tie.close
     (tie.spec
     is-address-range-requires
