@@ -17,9 +17,13 @@ use Rattle.spd_cache.specs.declared.Looked.{Looked}
 abbrev pub slotCount : ℕ
 slotCount = 32
 
+-- The words of all slots.
+abbrev pub slotsWords : ℕ
+slotsWords = slotCount * rowWords
+
 -- 'A fresh gate holds … empty caches'; 'an accepted policy empties both caches, sets both turns to the first slot'.
 abbrev pub emptyCache : Cache
-emptyCache = record { words = replicate (slotCount * rowWords) 0; count = 0; next = 0 }
+emptyCache = record { words = replicate slotsWords 0; count = 0; next = 0 }
 
 -- The words of the slots in use: the first ones, as many as the count says, and never more than there are.
 abbrev pub usedWords : List ℕ → ℕ → List ℕ

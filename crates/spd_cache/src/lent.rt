@@ -1,75 +1,47 @@
-// The SPD cache of one direction lent as words: looked up and changed where it lies, so that no packet copies it.
+// The cache lent as words: looked up and changed where it lies, so that no packet copies it.
 ghost use mathlib.Core.Path.{_≡_};
-ghost use Prim.Native.Nat.{_+_, _*_, _≤_, _<_, min, max};
-ghost use lib.ListN.{length, take, drop};
-ghost use lib.Seq.{paste};
+ghost use Prim.Native.Nat.{_+_, _*_, _≤_};
+ghost use lib.ListN.{length, take};
 ghost use Rattle.selectors.specs.Value.{combination};
 ghost use Rattle.policy.specs.Policy.{matchFrom};
-ghost use Rattle.policy.specs.Words.{policyRows};
-ghost use Rattle.spd_cache.specs.Cache.{actionAt, cached, stored, missed, lookedUp};
-ghost use Rattle.cache_in_place.specs.Lent.{cacheFrom, cacheWords};
+ghost use Rattle.policy.specs.Words.{rowWords, policyRows};
+ghost use Rattle.spd_cache.specs.Cache.{slotsWords, cached, stored, missed, lookedUp};
+ghost use Rattle.spd_cache.specs.Lent.{cacheSize, cacheFrom, cacheWords};
+use crate::Cache;
+use crate::SLOTS;
+use crate::SLOTS_WORDS;
+use crate::action_at;
+use crate::capped;
+use crate::in_slots;
+use crate::larger;
+use crate::put_row;
 use policy::Action;
 use policy::Found;
-use policy::ROW_WORDS;
 use selectors::Direction;
 use selectors::Selectors;
-use spd_cache::Cache;
-use spd_cache::SLOTS;
 
 // Where the count of slots in use and the slot whose turn it is stand, after the slots' rows.
-const COUNT: usize = 704;
+const COUNT: usize = SLOTS_WORDS;
 
-const NEXT: usize = 705;
+const NEXT: usize = COUNT + 1;
 
-fn in_use(count: u64) -> usize
-    ensures { λ r. ⌜ r ≡ min count 32 ⌝ }
-{
-    if count < 32 { count as usize } else { SLOTS }
-}
-
-fn larger(a: usize, b: usize) -> usize
-    ensures { λ r. ⌜ r ≡ max a b ⌝ }
-{
-    if a < b { b } else { a }
-}
+// The words of a cache.
+pub const CACHE_WORDS: usize = NEXT + 1;
 
 // The first match among the slots in use.
-fn in_slots(cache: &[u64], direction: Direction, selectors: Selectors) -> Found
-    requires { ⌜ length (now cache) ≡ 706 ⌝ }
+fn slot_of(cache: &[u64], direction: Direction, selectors: Selectors) -> Found
+    requires { ⌜ length (now cache) ≡ cacheSize ⌝ }
     ensures { λ r. ⌜ r ≡ matchFrom 0 direction (cached (cacheFrom (now (cache .entry)))) (combination selectors) ⌝ }
 {
-    let used = in_use(cache[COUNT]) * ROW_WORDS;
-    policy::first_match(&cache[..used], direction, selectors)
-}
-
-// The action of the row at a place of `rows`.
-fn action_at(rows: &[u64], row: usize) -> Action
-    requires { ⌜ row * 22 + 22 ≤ length (now rows) ⌝ }
-    ensures { λ r. ⌜ r ≡ actionAt (now (rows .entry)) row ⌝ }
-{
-    policy::action_of(rows[row * ROW_WORDS + 1])
-}
-
-// Writes the row at place `row` of `rows` into a slot.
-fn put_row(cache: &mut [u64], slot: usize, rows: &[u64], row: usize)
-    requires { ⌜ (slot * 22 + 22 ≤ length (now cache)) × (row * 22 + 22 ≤ length (now rows)) ⌝ }
-    ensures { λ _. ⌜ now (cache .exit) ≡ paste (now (cache .entry)) (slot * 22) (drop (row * 22) (now (rows .entry))) 22 ⌝ }
-{
-    let to = slot * ROW_WORDS;
-    let from = row * ROW_WORDS;
-    let mut i: usize = 0;
-    while i < ROW_WORDS {
-        cache[to + i] = rows[from + i];
-        i += 1;
-    }
+    in_slots(cache, cache[COUNT] as usize, direction, selectors)
 }
 
 // 'A miss that finds a row writes it to the slot whose turn it is, and the turn moves on, round after 32.'
 fn store(cache: &mut [u64], rows: &[u64], row: usize)
-    requires { ⌜ (length (now cache) ≡ 706) × (row * 22 + 22 ≤ length (now rows)) ⌝ }
+    requires { ⌜ (length (now cache) ≡ cacheSize) × (row * rowWords + rowWords ≤ length (now rows)) ⌝ }
     ensures { λ _. ⌜ now (cache .exit) ≡ cacheWords (stored (cacheFrom (now (cache .entry))) (now (rows .entry)) row) ⌝ }
 {
-    let used = in_use(cache[COUNT]);
+    let used = capped(cache[COUNT] as usize);
     let turn = cache[NEXT] as usize % SLOTS;
     let after = turn + 1;
     put_row(cache, turn, rows, row);
@@ -79,7 +51,7 @@ fn store(cache: &mut [u64], rows: &[u64], row: usize)
 
 // A miss: the search of the rows.
 fn miss(cache: &mut [u64], rows: &[u64], direction: Direction, selectors: Selectors) -> Action
-    requires { ⌜ length (now cache) ≡ 706 ⌝ }
+    requires { ⌜ length (now cache) ≡ cacheSize ⌝ }
     ensures { λ r. ⌜ r ≡ missed (cacheFrom (now (cache .entry))) (now (rows .entry)) (matchFrom 0 direction (policyRows (now (rows .entry))) (combination selectors)) .action ⌝ }
     ensures { λ _. ⌜ now (cache .exit) ≡ cacheWords (missed (cacheFrom (now (cache .entry))) (now (rows .entry)) (matchFrom 0 direction (policyRows (now (rows .entry))) (combination selectors)) .cache) ⌝ }
 {
@@ -93,7 +65,7 @@ fn miss(cache: &mut [u64], rows: &[u64], direction: Direction, selectors: Select
 
 // What `Cache::lookup` does to a cache by value, done to a lent one in place.
 pub fn lookup(
-    cache: &mut [u64; 706],
+    cache: &mut [u64; CACHE_WORDS],
     rows: &[u64],
     direction: Direction,
     selectors: Selectors,
@@ -101,7 +73,7 @@ pub fn lookup(
     ensures { λ r. ⌜ r ≡ lookedUp (cacheFrom (now (cache .entry))) (now (rows .entry)) direction (combination selectors) .action ⌝ }
     ensures { λ _. ⌜ now (cache .exit) ≡ cacheWords (lookedUp (cacheFrom (now (cache .entry))) (now (rows .entry)) direction (combination selectors) .cache) ⌝ }
 {
-    let slot = in_slots(cache, direction, selectors);
+    let slot = slot_of(cache, direction, selectors);
     match slot {
         Found::Row(hit) => action_at(cache, hit),
         Found::Nothing => miss(cache, rows, direction, selectors),
@@ -109,13 +81,13 @@ pub fn lookup(
 }
 
 // The words of the slots.
-fn slots(lent: &[u64]) -> [u64; 704]
-    requires { ⌜ length (now lent) ≡ 706 ⌝ }
-    ensures { λ r. ⌜ r ≡ take 704 (now (lent .entry)) ⌝ }
+fn slots(lent: &[u64]) -> [u64; SLOTS_WORDS]
+    requires { ⌜ length (now lent) ≡ cacheSize ⌝ }
+    ensures { λ r. ⌜ r ≡ take slotsWords (now (lent .entry)) ⌝ }
 {
-    let mut words = [0u64; 704];
+    let mut words = [0u64; SLOTS_WORDS];
     let mut i: usize = 0;
-    while i < COUNT {
+    while i < SLOTS_WORDS {
         words[i] = lent[i];
         i += 1;
     }
@@ -123,7 +95,7 @@ fn slots(lent: &[u64]) -> [u64; 704]
 }
 
 // A lent cache as a value.
-pub fn load(lent: &[u64; 706]) -> Cache
+pub fn load(lent: &[u64; CACHE_WORDS]) -> Cache
     ensures { λ r. ⌜ r ≡ cacheFrom (now (lent .entry)) ⌝ }
 {
     Cache {
@@ -134,12 +106,12 @@ pub fn load(lent: &[u64; 706]) -> Cache
 }
 
 fn put(lent: &mut [u64], cache: Cache)
-    requires { ⌜ length (now lent) ≡ 706 ⌝ }
+    requires { ⌜ length (now lent) ≡ cacheSize ⌝ }
     ensures { λ _. ⌜ now (lent .exit) ≡ cacheWords cache ⌝ }
 {
     let words = cache.words;
     let mut i: usize = 0;
-    while i < COUNT {
+    while i < SLOTS_WORDS {
         lent[i] = words[i];
         i += 1;
     }
@@ -148,7 +120,7 @@ fn put(lent: &mut [u64], cache: Cache)
 }
 
 // Puts a cache into lent words.
-pub fn save(lent: &mut [u64; 706], cache: Cache)
+pub fn save(lent: &mut [u64; CACHE_WORDS], cache: Cache)
     ensures { λ _. ⌜ now (lent .exit) ≡ cacheWords cache ⌝ }
 {
     put(lent, cache)

@@ -1,19 +1,20 @@
--- `cache_in_place::put` meets its contract. The loop's invariant: the first `i` words are copied. Assumes nothing.
+-- `lent::put` meets its contract. The loop's invariant: the first `i` words are copied. Assumes nothing.
 use Prim.Native.Nat.{ℕ, _-_, _≤_}
 use native.Mathlib.Omega.{arith}
 use mathlib.Core.Path.{_≡_, refl, sym, subst, _∙_}
 use lib.ListN.{length, take, length-set}
-use Rattle.cache_in_place.specs.Lent.{cacheWords}
-use Rattle.cache_in_place.specs.LentLaws.{copy-next, two-more}
+use Rattle.spd_cache.specs.Lent.{cacheSize, cacheWords}
+use Rattle.spd_cache.specs.LentLaws.{copied-next, two-more}
+use Rattle.spd_cache.specs.Cache.{slotsWords}
 use borrow.Author.Needs.{needs}
-use Rattle.cache_in_place.proofs.put.Statement.{statement}
-use Rattle.cache_in_place.proofs.put.Tie as tie
+use Rattle.spd_cache.proofs.lent.put.Statement.{statement}
+use Rattle.spd_cache.proofs.lent.put.Tie as tie
 
 abbrev Inv-loop : tie.InvT-loop
-Inv-loop lent₀ cache words i₀ lent i = (i ≤ 704) × ((take i lent ≡ take i words) × (length lent ≡ 706))
+Inv-loop lent₀ cache words i₀ lent i = (i ≤ slotsWords) × ((take i lent ≡ take i words) × (length lent ≡ cacheSize))
 
 abbrev μ-loop : tie.MeasureT-loop
-μ-loop lent₀ cache words i₀ lent i = 704 - i
+μ-loop lent₀ cache words i₀ lent i = slotsWords - i
 
 loop-holds : tie.Need-loop-holds Inv-loop μ-loop
 loop-holds c = (search needs, (refl, c .before .pre))
@@ -41,7 +42,7 @@ loop-again c =
     let l = c .before .loop in (
       search needs,
       (
-        copy-next (l .lent) (c .before .before .before .args .cache .words) (l .i) (omega (arith, l .inv .1 .1)) (search needs) (l .inv .1 .0),
+        copied-next (l .lent) (c .before .before .before .args .cache .words) (l .i) (omega (arith, l .inv .1 .1)) (search needs) (l .inv .1 .0),
         length-set (l .lent) (l .i) _ ∙ l .inv .1 .1,
       ),
     )
@@ -61,8 +62,8 @@ unfolding cacheWords
 returns c =
     let l = c .before .loop in
     let r = c .before .before .before .args .cache in
-    let e : l .i ≡ 704 = omega arith in
-    two-more (l .lent) (r .words) 704 (r .count) (r .next) (l .inv .1 .1) (search needs) (subst (λ (k : ℕ). take k (l .lent) ≡ take k (r .words)) e (l .inv .1 .0))
+    let e : l .i ≡ slotsWords = omega arith in
+    two-more (l .lent) (r .words) slotsWords (r .count) (r .next) (l .inv .1 .1) (search needs) (subst (λ (k : ℕ). take k (l .lent) ≡ take k (r .words)) e (l .inv .1 .0))
 
 pub put-spec : {M : Type 1} → statement M
 put-spec =

@@ -1,15 +1,15 @@
--- `cache_in_place::miss` meets its contract: the row found is stored, and none changes nothing. Assumes nothing.
+-- `lent::miss` meets its contract: the row found is stored, and none changes nothing. Assumes nothing.
 use Prim.Native.Nat.{_+_, _*_, _≤_}
 use mathlib.Core.Path.{refl, sym, _∙_}
 use lib.ListN.{length}
 use denote.Ref.{now}
 use Rattle.selectors.specs.Value.{combination}
 use Rattle.policy.specs.Words.{rowWords}
 use Rattle.spd_cache.specs.CacheLaws.{row-bound}
-use Rattle.cache_in_place.specs.LentLaws.{cache-kept}
+use Rattle.spd_cache.specs.LentLaws.{cache-kept}
 use borrow.Author.Needs.{needs}
-use Rattle.cache_in_place.proofs.miss.Statement.{statement}
-use Rattle.cache_in_place.proofs.miss.Tie as tie
+use Rattle.spd_cache.proofs.lent.miss.Statement.{statement}
+use Rattle.spd_cache.proofs.lent.miss.Tie as tie
 
 first-match-requires : tie.Need-first-match-requires
 first-match-requires c κs = search needs

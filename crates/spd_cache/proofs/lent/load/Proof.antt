@@ -1,8 +1,8 @@
--- `cache_in_place::load` meets its contract: the words of the slots, and two numbers. Assumes nothing.
-use Rattle.cache_in_place.specs.Lent.{cacheFrom}
+-- `lent::load` meets its contract: the words of the slots, and two numbers. Assumes nothing.
+use Rattle.spd_cache.specs.Lent.{cacheFrom}
 use borrow.Author.Needs.{needs}
-use Rattle.cache_in_place.proofs.load.Statement.{statement}
-use Rattle.cache_in_place.proofs.load.Tie as tie
+use Rattle.spd_cache.proofs.lent.load.Statement.{statement}
+use Rattle.spd_cache.proofs.lent.load.Tie as tie
 
 slots-requires : tie.Need-slots-requires
 slots-requires c κs = search needs

@@ -11,14 +11,14 @@ use Rattle.selectors.specs.declared.Direction.{Direction}
 use Rattle.policy.specs.declared.Found.the-variants.{Row}
 use Rattle.policy.specs.Policy.{matchFrom}
 use Rattle.policy.specs.Words.{rowWords}
-use Rattle.spd_cache.specs.Cache.{slotCount, inUse, cached, actionAt, stored}
+use Rattle.spd_cache.specs.Cache.{slotCount, slotsWords, usedWords, inUse, cached, actionAt, stored}
 use Rattle.spd_cache.specs.CacheLaws.{slot-bound, used-action}
-use Rattle.cache_in_place.specs.Lent.{slotsWords, cacheFrom, cacheWords}
+use Rattle.spd_cache.specs.Lent.{countAt, nextAt, cacheSize, cacheFrom, cacheWords}
 
 -- One turn of a copy: the first i words are copied, and the next one is.
-pub copy-next : (to from : List ℕ) (i : ℕ) → i < length to → i < length from → take i to ≡ take i from
+pub copied-next : (to from : List ℕ) (i : ℕ) → i < length to → i < length from → take i to ≡ take i from
     → take (i + 1) (set to i (getD from i 0)) ≡ take (i + 1) from
-copy-next to from i h g e = rw (add-one, take-suc-set to i (getD from i 0) h, take-suc from i 0 g, e) refl
+copied-next to from i h g e = rw (add-one, take-suc-set to i (getD from i 0) h, take-suc from i 0 g, e) refl
 
 -- A list that is copied whole.
 pub copied-whole : (to from : List ℕ) (n : ℕ) → length to ≡ n → take n to ≡ take n from → to ≡ take n from
@@ -52,7 +52,7 @@ paste-take ws n at s m h k l =
     ∙ ap (take n) (paste-append (take n ws) (drop n ws) at s m room)
     ∙ take-at (paste (take n ws) at s m) (drop n ws) n (length-paste (take n ws) at s m room l ∙ h)
 
-module _ (ws : List ℕ) (h : length ws ≡ 706) where
+module _ (ws : List ℕ) (h : length ws ≡ cacheSize) where
   long : length (take slotsWords ws) ≡ slotsWords
   long = simp length-take (omega (arith, h))
 
@@ -60,35 +60,35 @@ module _ (ws : List ℕ) (h : length ws ≡ 706) where
   pub cache-kept : cacheWords (cacheFrom ws) ≡ ws
   unfolding cacheWords cacheFrom
   cache-kept =
-      sym (two-more ws (take 704 ws) 704 (getD ws 704 0) (getD ws 705 0) h long (sym (take-take 704 704 ws (omega arith))))
-      ∙ ap (λ (r : List ℕ). set r 705 (getD ws 705 0)) (set-getD ws 704 0)
-      ∙ set-getD ws 705 0
+      sym (two-more ws (take slotsWords ws) slotsWords (getD ws countAt 0) (getD ws nextAt 0) h long (sym (take-take slotsWords slotsWords ws (omega arith))))
+      ∙ ap (λ (r : List ℕ). set r nextAt (getD ws nextAt 0)) (set-getD ws countAt 0)
+      ∙ set-getD ws nextAt 0
 
   -- The slots in use, read off the words that are lent.
-  pub slots-in-use : inUse (cacheFrom ws) ≡ take (min (getD ws 704 0) slotCount * rowWords) ws
+  pub slots-in-use : inUse (cacheFrom ws) ≡ usedWords ws (getD ws countAt 0)
   unfolding cacheFrom
-  slots-in-use = take-take (min (getD ws 704 0) slotCount * rowWords) slotsWords ws (omega arith)
+  slots-in-use = take-take (min (getD ws countAt 0) slotCount * rowWords) slotsWords ws (omega arith)
 
   -- A hit is in one of the slots in use, and its action is read where it lies.
-  pub hit-below : (d : Direction) (vs : List ℕ) (j : ℕ) → matchFrom 0 d (cached (cacheFrom ws)) vs ≡ Row j → j < min (getD ws 704 0) slotCount
+  pub hit-below : (d : Direction) (vs : List ℕ) (j : ℕ) → matchFrom 0 d (cached (cacheFrom ws)) vs ≡ Row j → j < min (getD ws countAt 0) slotCount
   unfolding cacheFrom
-  hit-below d vs j e = slot-bound (take slotsWords ws) (getD ws 704 0) d vs j e
+  hit-below d vs j e = slot-bound (take slotsWords ws) (getD ws countAt 0) d vs j e
 
-  pub hit-action : (j : ℕ) → j < min (getD ws 704 0) slotCount → actionAt (inUse (cacheFrom ws)) j ≡ actionAt ws j
-  hit-action j l = rw slots-in-use (used-action ws (getD ws 704 0) j l)
+  pub hit-action : (j : ℕ) → j < min (getD ws countAt 0) slotCount → actionAt (inUse (cacheFrom ws)) j ≡ actionAt ws j
+  hit-action j l = rw slots-in-use (used-action ws (getD ws countAt 0) j l)
 
   -- A row stored where it lies.
   pub stored-words : (rows : List ℕ) (j : ℕ) → j * rowWords + rowWords ≤ length rows
       → set
-      (set (paste ws (getD ws 705 0 % slotCount * rowWords) (drop (j * rowWords) rows) rowWords) 704 (max (min (getD ws 704 0) slotCount) (getD ws 705 0 % slotCount + 1)))
-      705
-      ((getD ws 705 0 % slotCount + 1) % slotCount)
+      (set (paste ws (getD ws nextAt 0 % slotCount * rowWords) (drop (j * rowWords) rows) rowWords) countAt (max (min (getD ws countAt 0) slotCount) (getD ws nextAt 0 % slotCount + 1)))
+      nextAt
+      ((getD ws nextAt 0 % slotCount + 1) % slotCount)
       ≡ cacheWords (stored (cacheFrom ws) rows j)
   unfolding cacheWords cacheFrom
   stored-words rows j l =
-      let at = getD ws 705 0 % slotCount * rowWords in
+      let at = getD ws nextAt 0 % slotCount * rowWords in
       let new = drop (j * rowWords) rows in
-      let below : at + rowWords ≤ slotsWords = omega (arith, mod-lt (getD ws 705 0) {m = slotCount} (omega arith)) in
+      let below : at + rowWords ≤ slotsWords = omega (arith, mod-lt (getD ws nextAt 0) {m = slotCount} (omega arith)) in
       let row : rowWords ≤ length new = simp length-drop (omega arith) in
       let slots : length (paste (take slotsWords ws) at new rowWords) ≡ slotsWords = length-paste (take slotsWords ws) at new rowWords (omega (arith, long)) row ∙ long in
       two-more (paste ws at new rowWords) (paste (take slotsWords ws) at new rowWords) slotsWords _ _

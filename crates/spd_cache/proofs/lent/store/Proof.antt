@@ -1,18 +1,16 @@
--- `cache_in_place::store` meets its contract: the row, the count and the turn are written where they lie. Assumes nothing.
-use native.Mathlib.Omega.{arith}
-use mathlib.Core.Path.{_∙_}
+-- `lent::store` meets its contract: the row, the count and the turn are written where they lie. Assumes nothing.
 use denote.Ref.{now}
 use lib.ListN.{length-set}
-use Rattle.cache_in_place.specs.LentLaws.{stored-words}
+use Rattle.spd_cache.specs.LentLaws.{stored-words}
 use borrow.Author.Needs.{needs}
-use Rattle.cache_in_place.proofs.store.Statement.{statement}
-use Rattle.cache_in_place.proofs.store.Tie as tie
+use Rattle.spd_cache.proofs.lent.store.Statement.{statement}
+use Rattle.spd_cache.proofs.lent.store.Tie as tie
 
-slice-read-in-use : tie.Need-slice-read-in-use
-slice-read-in-use c = search needs
+slice-read-capped : tie.Need-slice-read-capped
+slice-read-capped c = search needs
 
-in-use-requires : tie.Need-in-use-requires
-in-use-requires c κs = search needs
+capped-requires : tie.Need-capped-requires
+capped-requires c κs = search needs
 
 slice-read-turn : tie.Need-slice-read-turn
 slice-read-turn c = search needs
@@ -38,15 +36,15 @@ same-length c = search needs
 returns : tie.Need-returns
 returns c =
     let s = c .before .before .before .before .before .before .before .before .before .before in
-    rw (c .before .before .before .put-row .ensures, c .larger .ensures, c .before .before .before .before .before .before .in-use .ensures)
+    rw (c .before .before .before .put-row .ensures, c .larger .ensures, c .before .before .before .before .before .before .capped .ensures)
     (stored-words (now (s .args .cache)) (s .pre .0) (now (s .args .rows)) (s .args .row) (s .pre .1))
 
 pub store-spec : {M : Type 1} → statement M
 store-spec =
     tie.close
     (tie.spec
-    slice-read-in-use
-    in-use-requires
+    slice-read-capped
+    capped-requires
     slice-read-turn
     add-after
     put-row-requires

@@ -1,18 +1,19 @@
--- `cache_in_place::slots` meets its contract. The loop's invariant: the first `i` words are copied. Assumes nothing.
+-- `lent::slots` meets its contract. The loop's invariant: the first `i` words are copied. Assumes nothing.
 use Prim.Native.Nat.{ℕ, _-_, _≤_}
 use native.Mathlib.Omega.{arith}
 use mathlib.Core.Path.{_≡_, refl, subst, _∙_}
 use lib.ListN.{length, take, length-set}
-use Rattle.cache_in_place.specs.LentLaws.{copy-next, copied-whole}
+use Rattle.spd_cache.specs.LentLaws.{copied-next, copied-whole}
+use Rattle.spd_cache.specs.Cache.{slotsWords}
 use borrow.Author.Needs.{needs}
-use Rattle.cache_in_place.proofs.slots.Statement.{statement}
-use Rattle.cache_in_place.proofs.slots.Tie as tie
+use Rattle.spd_cache.proofs.lent.slots.Statement.{statement}
+use Rattle.spd_cache.proofs.lent.slots.Tie as tie
 
 abbrev Inv-loop : tie.InvT-loop
-Inv-loop lent words₀ i₀ words i = (i ≤ 704) × ((take i words ≡ take i lent) × (length words ≡ 704))
+Inv-loop lent words₀ i₀ words i = (i ≤ slotsWords) × ((take i words ≡ take i lent) × (length words ≡ slotsWords))
 
 abbrev μ-loop : tie.MeasureT-loop
-μ-loop lent words₀ i₀ words i = 704 - i
+μ-loop lent words₀ i₀ words i = slotsWords - i
 
 loop-holds : tie.Need-loop-holds Inv-loop μ-loop
 loop-holds c = (search needs, (refl, refl))
@@ -41,7 +42,7 @@ loop-again c =
     let s = c .before .before .before in (
       search needs,
       (
-        copy-next (l .words) (s .args .lent .now) (l .i) (omega (arith, l .inv .1 .1)) (omega (arith, s .pre)) (l .inv .1 .0),
+        copied-next (l .words) (s .args .lent .now) (l .i) (omega (arith, l .inv .1 .1)) (omega (arith, s .pre)) (l .inv .1 .0),
         length-set (l .words) (l .i) _ ∙ l .inv .1 .1,
       ),
     )
@@ -50,8 +51,8 @@ returns : tie.Need-returns Inv-loop μ-loop
 returns c =
     let l = c .before .loop in
     let lent = c .before .before .args .lent .now in
-    let e : l .i ≡ 704 = omega arith in
-    copied-whole (l .words) lent 704 (l .inv .1 .1) (subst (λ (k : ℕ). take k (l .words) ≡ take k lent) e (l .inv .1 .0))
+    let e : l .i ≡ slotsWords = omega arith in
+    copied-whole (l .words) lent slotsWords (l .inv .1 .1) (subst (λ (k : ℕ). take k (l .words) ≡ take k lent) e (l .inv .1 .0))
 
 pub slots-spec : {M : Type 1} → statement M
 slots-spec =
