@@ -44,9 +44,9 @@ use Rattle.answers.specs.TermsLaws.{unreadable, gateway-decides}
 use Rattle.answers.specs.Answers.{out-10}
 
 -- 'Answers 10 and up for a policy, pair or print change nothing lent.' A policy that is not accepted leaves the policy and both caches.
-pub policy-unchanged : (limit : ℕ) (ws : List ℕ) (c : Caches) (policy : Policy)
-    → 10 ≤ acceptanceNumber (accepting limit policy) → (spdAfter limit ws policy ≡ ws) × (cachesAfter limit c policy ≡ c)
-policy-unchanged limit ws c policy h = (words policy h, by emptyCaches c (accepting limit policy) h)
+pub policy-unchanged : (capacity limit : ℕ) (ws : List ℕ) (c : Caches) (policy : Policy)
+    → 10 ≤ acceptanceNumber (accepting limit policy) → (spdAfter capacity limit ws policy ≡ ws) × (cachesAfter limit c policy ≡ c)
+policy-unchanged capacity limit ws c policy h = (words policy h, by emptyCaches c (accepting limit policy) h)
   where
     by : {A : Type 0} (new old : A) (a : Acceptance) → 10 ≤ acceptanceNumber a → ifAccepted a new old ≡ old
     by new old Accepted g = absurd (omega arith)
@@ -56,9 +56,9 @@ policy-unchanged limit ws c policy h = (words policy h, by emptyCaches c (accept
     by new old (Bad i) g = refl
     by new old (OverForm w) g = refl
 
-    words : (p : Policy) → 10 ≤ acceptanceNumber (accepting limit p) → spdAfter limit ws p ≡ ws
+    words : (p : Policy) → 10 ≤ acceptanceNumber (accepting limit p) → spdAfter capacity limit ws p ≡ ws
     words (refused p) g = refl
-    words (rows rs) g = by (spdWords (addressOf ws) rs) ws (accepting limit (rows rs)) g
+    words (rows rs) g = by (spdWords capacity (addressOf ws) rs) ws (accepting limit (rows rs)) g
 
 -- Nor do a pair that is not added, one that is not removed, and what is not printed.
 pub add-unchanged : (ws : List ℕ) (q : NewPair) → 10 ≤ outcomeNumber (addOutcome (pairs ws) q) → added ws q ≡ ws

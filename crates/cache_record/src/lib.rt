@@ -2,6 +2,7 @@
 ghost use mathlib.Core.Path.{_≡_};
 ghost use Rattle.selectors.specs.Value.{combination};
 ghost use Rattle.sad.specs.Pairs.{pairs};
+ghost use Rattle.policy.specs.Words.{rowLimit};
 ghost use Rattle.spd_words.specs.Words.{rowsOf, addressOf};
 ghost use Rattle.spd_cache.specs.Cache.{lookedUp};
 ghost use Rattle.gateway.specs.Cached.{outboundCached, inboundCached};
@@ -27,7 +28,7 @@ pub fn outbound(
     cache: &mut Cache,
     bytes: &[u8],
 ) -> Verdict
-    ensures { λ r. ⌜ (r ≡ outboundCached (now (cache .entry)) (rowsOf (now (policy .entry)) Direction.Out) (pairs (now (table .entry))) (now (bytes .entry)) .verdict) × (now (cache .exit) ≡ outboundCached (now (cache .entry)) (rowsOf (now (policy .entry)) Direction.Out) (pairs (now (table .entry))) (now (bytes .entry)) .cache) ⌝ }
+    ensures { λ r. ⌜ (r ≡ outboundCached (now (cache .entry)) (rowsOf rowLimit (now (policy .entry)) Direction.Out) (pairs (now (table .entry))) (now (bytes .entry)) .verdict) × (now (cache .exit) ≡ outboundCached (now (cache .entry)) (rowsOf rowLimit (now (policy .entry)) Direction.Out) (pairs (now (table .entry))) (now (bytes .entry)) .cache) ⌝ }
 {
     let answered = gateway::outbound(policy, table, *cache, bytes);
     *cache = answered.cache;
@@ -41,7 +42,7 @@ pub fn inbound(
     cache: &mut Cache,
     bytes: &[u8],
 ) -> Verdict
-    ensures { λ r. ⌜ (r ≡ inboundCached (now (cache .entry)) (rowsOf (now (policy .entry)) Direction.In) (addressOf (now (policy .entry))) (pairs (now (table .entry))) (now (bytes .entry)) .verdict) × (now (cache .exit) ≡ inboundCached (now (cache .entry)) (rowsOf (now (policy .entry)) Direction.In) (addressOf (now (policy .entry))) (pairs (now (table .entry))) (now (bytes .entry)) .cache) ⌝ }
+    ensures { λ r. ⌜ (r ≡ inboundCached (now (cache .entry)) (rowsOf rowLimit (now (policy .entry)) Direction.In) (addressOf (now (policy .entry))) (pairs (now (table .entry))) (now (bytes .entry)) .verdict) × (now (cache .exit) ≡ inboundCached (now (cache .entry)) (rowsOf rowLimit (now (policy .entry)) Direction.In) (addressOf (now (policy .entry))) (pairs (now (table .entry))) (now (bytes .entry)) .cache) ⌝ }
 {
     let answered = gateway::inbound(policy, table, *cache, bytes);
     *cache = answered.cache;

@@ -11,7 +11,7 @@ use Rattle.selectors.specs.declared.Direction.the-variants.{Out, In}
 use Rattle.normal_form.specs.Search.{Row}
 use Rattle.policy.specs.declared.Action.{Action}
 use Rattle.policy.specs.Policy.{PolicyRow, policyNormalForm}
-use Rattle.policy.specs.Words.{actionWord, rowWords, policyWords}
+use Rattle.policy.specs.Words.{actionWord, rowWords}
 use Rattle.policy_text.specs.RowWords.{rangesWords}
 use Rattle.layout.specs.Laid.{roomFor}
 use Rattle.layout.specs.declared.Laid.{Laid}
@@ -38,17 +38,21 @@ pub record FormOutcome (limit : ℕ) (d : Direction) (rs : List PolicyRow) (room
   pub words : (n : ℕ) → r ≡ Rows n → take (n * rowWords) room′ ≡ formWords (form d rs)
   pub untouched : r ≡ NoRoom → room′ ≡ room
 
--- The words, then zeros to the end of the room for the limit's rows.
-unfoldable pub padded : List ℕ → List ℕ
-padded ws = ws ++ replicate (policyWords - length ws) 0
+-- The words, then zeros to the end of a room of so many words.
+unfoldable pub padded : ℕ → List ℕ → List ℕ
+padded size ws = ws ++ replicate (size - length ws) 0
 
--- The count of a normal form's rows, or that there are more than the limit; and what then stands in a room for the limit's rows: the
--- normal form's words with zeros after them, or what stood there before.
+-- The room of a normal form in a policy's words: `capacity` rows, of which the normal form's are the first.
+abbrev pub formRoom : ℕ → Direction → List PolicyRow → List ℕ
+formRoom capacity d rs = padded (capacity * rowWords) (formWords (form d rs))
+
+-- The count of a normal form's rows, or that there are more than the limit; and what then stands in its room: the normal form, or what
+-- stood there before.
 abbrev pub formAnswer : ℕ → Direction → List PolicyRow → Form
 formAnswer limit d rs = cond (leb (length (form d rs)) limit) (FormRows (length (form d rs))) FormOver
 
-abbrev pub formAfter : ℕ → Direction → List PolicyRow → List ℕ → List ℕ
-formAfter limit d rs ws = cond (leb (length (form d rs)) limit) (padded (formWords (form d rs))) ws
+abbrev pub formAfter : ℕ → ℕ → Direction → List PolicyRow → List ℕ → List ℕ
+formAfter capacity limit d rs ws = cond (leb (length (form d rs)) limit) (formRoom capacity d rs) ws
 
 -- Document 01's number of a way, which answer 22 carries: 1 for out and 2 for in.
 abbrev pub directionNumber : Direction → ℕ

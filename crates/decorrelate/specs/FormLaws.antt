@@ -32,7 +32,7 @@ use Rattle.layout.specs.declared.Point.{Point}
 use Rattle.layout.specs.declared.Laid.{Laid}
 use Rattle.layout.specs.declared.Laid.the-variants.{Rows, Over, NoRoom}
 use Rattle.decorrelate.specs.declared.Form.the-variants.{Rows as FormRows, Over as FormOver}
-use Rattle.decorrelate.specs.Form.{form, formRowWords, formWords, padded, formAnswer, formAfter, FormOutcome}
+use Rattle.decorrelate.specs.Form.{form, formRowWords, formWords, padded, formRoom, formAnswer, formAfter, FormOutcome}
 
 -- The fields of IPv4 by their highest values.
 pub ipv4-highest : (p : Point) → p .words ≡ 0 ∷ 4294967295 ∷ 0 ∷ 4294967295 ∷ 0 ∷ 255 ∷ 0 ∷ 65536 ∷ 0 ∷ 65536 ∷ [] → sizesOf p ≡ ipv4Sizes
@@ -291,31 +291,33 @@ laying limit d rs room room′ r enough o = by r refl (counted limit (length (fo
     by Over e c = c
     by NoRoom e c = c
 
--- What an answer makes of a room for the limit's rows.
-module _ (limit : ℕ) (d : Direction) (rs : List PolicyRow) (room ws : List ℕ) where
+-- What an answer makes of a room for `capacity` rows.
+module _ (capacity limit : ℕ) (d : Direction) (rs : List PolicyRow) (room ws : List ℕ) where
   pub form-written : (n : ℕ) → Laying limit d rs room (Rows n)
-      → (FormRows n ≡ formAnswer limit d rs) × (padded (take (n * rowWords) room) ≡ formAfter limit d rs ws)
+      → (FormRows n ≡ formAnswer limit d rs) × (padded (capacity * rowWords) (take (n * rowWords) room) ≡ formAfter capacity limit d rs ws)
   unfolding Laying
   form-written n l =
       let e = le-leb (length (form d rs)) limit (omega (arith, l .0, l .1)) in
       (rw (e, l .1), rw (e, l .2))
 
-  pub form-left : Laying limit d rs room Over → (FormOver ≡ formAnswer limit d rs) × (ws ≡ formAfter limit d rs ws)
+  pub form-left : Laying limit d rs room Over → (FormOver ≡ formAnswer limit d rs) × (ws ≡ formAfter capacity limit d rs ws)
   unfolding Laying
   form-left l = let e = lt-leb (length (form d rs)) limit l in (rw e, rw e)
 
 -- And what that answer says.
 module _ (limit : ℕ) (d : Direction) (rs : List PolicyRow) where
   pub form-within : (n : ℕ) → formAnswer limit d rs ≡ FormRows n
-      → (length (form d rs) ≤ limit) × (n ≡ length (form d rs)) × ((ws : List ℕ) → formAfter limit d rs ws ≡ padded (formWords (form d rs)))
+      → (length (form d rs) ≤ limit) × (n ≡ length (form d rs))
+      × ((capacity : ℕ) (ws : List ℕ) → formAfter capacity limit d rs ws ≡ formRoom capacity d rs)
   form-within n e = by (decLe (length (form d rs)) limit)
     where
       by : Dec (length (form d rs) ≤ limit)
-          → (length (form d rs) ≤ limit) × (n ≡ length (form d rs)) × ((ws : List ℕ) → formAfter limit d rs ws ≡ padded (formWords (form d rs)))
+          → (length (form d rs) ≤ limit) × (n ≡ length (form d rs))
+          × ((capacity : ℕ) (ws : List ℕ) → formAfter capacity limit d rs ws ≡ formRoom capacity d rs)
       by (yes h) =
           let t = le-leb (length (form d rs)) limit h in
           let a : FormRows (length (form d rs)) ≡ FormRows n = rw t at e in
-          (h, cc, λ ws. rw t)
+          (h, cc, λ capacity ws. rw t)
       by (no h) =
           let a : FormOver ≡ FormRows n = rw (lt-leb (length (form d rs)) limit (omega arith)) at e in
           let z : _≡_ {A = ℕ} 0 1 = cc in

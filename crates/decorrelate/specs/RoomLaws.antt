@@ -1,4 +1,4 @@
--- Laws of words with zeros after them, and of a normal form in a room for the limit's rows. Assumes nothing.
+-- Laws of words with zeros after them, and of a normal form in a room for `capacity` rows. Assumes nothing.
 use Prim.Native.Nat.{ℕ, zero, suc, _-_, _*_, _≤_, _<_}
 use native.Mathlib.Omega.{arith}
 use mathlib.Core.Path.{_≡_, refl, _∙_}
@@ -7,9 +7,9 @@ use lib.ListN.{length, getD, take, replicate, length-append, length-take, length
 use lib.Seq.{take-at, getD-take}
 use Rattle.selectors.specs.declared.Direction.{Direction}
 use Rattle.policy.specs.Policy.{PolicyRow}
-use Rattle.policy.specs.Words.{rowWords, rowLimit, policyWords}
+use Rattle.policy.specs.Words.{rowWords}
 use Rattle.decorrelate.specs.declared.Form.the-variants.{Rows as FormRows}
-use Rattle.decorrelate.specs.Form.{form, formWords, padded, formAnswer, formAfter}
+use Rattle.decorrelate.specs.Form.{form, formWords, padded, formRoom, formAnswer, formAfter}
 use Rattle.decorrelate.specs.FormLaws.{form-words-length, form-within}
 
 -- A word that is not there is 0, and so are all of a list of zeros.
@@ -24,43 +24,43 @@ getD-zeros (w ∷ ws) n zero = refl
 getD-zeros (w ∷ ws) n (suc i) = getD-zeros ws n i
 
 -- The words with zeros after them, word by word.
-module _ (ws : List ℕ) (used i : ℕ) where
-  pub padded-front : i < used → getD (padded (take used ws)) i 0 ≡ getD ws i 0
+module _ (size : ℕ) (ws : List ℕ) (used i : ℕ) where
+  pub padded-front : i < used → getD (padded size (take used ws)) i 0 ≡ getD ws i 0
   unfolding padded
-  padded-front h = getD-zeros (take used ws) (policyWords - length (take used ws)) i ∙ getD-take used ws i 0 h
+  padded-front h = getD-zeros (take used ws) (size - length (take used ws)) i ∙ getD-take used ws i 0 h
 
-  pub padded-rest : used ≤ i → getD (padded (take used ws)) i 0 ≡ 0
+  pub padded-rest : used ≤ i → getD (padded size (take used ws)) i 0 ≡ 0
   unfolding padded
   padded-rest h =
-      getD-zeros (take used ws) (policyWords - length (take used ws)) i ∙ List·getD-eq-default (take used ws) 0 (omega (arith, length-take used ws))
+      getD-zeros (take used ws) (size - length (take used ws)) i ∙ List·getD-eq-default (take used ws) 0 (omega (arith, length-take used ws))
 
-pub padded-size : (ws : List ℕ) → length ws ≤ policyWords → length (padded ws) ≡ policyWords
+pub padded-size : (size : ℕ) (ws : List ℕ) → length ws ≤ size → length (padded size ws) ≡ size
 unfolding padded
-padded-size ws h = omega (arith, length-append ws (replicate (policyWords - length ws) 0), length-replicate {A = ℕ} (policyWords - length ws) 0)
+padded-size size ws h = omega (arith, length-append ws (replicate (size - length ws) 0), length-replicate {A = ℕ} (size - length ws) 0)
 
 -- The first words of words with zeros after them.
-pub padded-start : (ws : List ℕ) (n : ℕ) → length ws ≡ n → take n (padded ws) ≡ ws
+pub padded-start : (size : ℕ) (ws : List ℕ) (n : ℕ) → length ws ≡ n → take n (padded size ws) ≡ ws
 unfolding padded
-padded-start ws n e = take-at ws _ n e
+padded-start size ws n e = take-at ws _ n e
 
--- A room with the n rows of a policy's normal form, and zeros after them.
-pub record Held (d : Direction) (rs : List PolicyRow) (n : ℕ) (ws : List ℕ) : Type 0 where
-  pub few : n ≤ rowLimit
+-- A room for `capacity` rows with the n rows of a policy's normal form, at most `limit`, and zeros after them.
+pub record Held (capacity limit : ℕ) (d : Direction) (rs : List PolicyRow) (n : ℕ) (ws : List ℕ) : Type 0 where
+  pub few : n ≤ limit
   pub rows : n ≡ length (form d rs)
-  pub words : ws ≡ padded (formWords (form d rs))
-  pub size : length ws ≡ policyWords
+  pub words : ws ≡ formRoom capacity d rs
+  pub size : length ws ≡ capacity * rowWords
   pub front : take (n * rowWords) ws ≡ formWords (form d rs)
 
-pub held : (d : Direction) (rs : List PolicyRow) (n : ℕ) (old ws : List ℕ) → formAnswer rowLimit d rs ≡ FormRows n → ws ≡ formAfter rowLimit d rs old
-    → Held d rs n ws
-held d rs n old ws e f =
-    let w = form-within rowLimit d rs n e in
+pub held : (capacity limit : ℕ) → limit ≤ capacity → (d : Direction) (rs : List PolicyRow) (n : ℕ) (old ws : List ℕ)
+    → formAnswer limit d rs ≡ FormRows n → ws ≡ formAfter capacity limit d rs old → Held capacity limit d rs n ws
+held capacity limit bound d rs n old ws e f =
+    let w = form-within limit d rs n e in
     let count : length (formWords (form d rs)) ≡ n * rowWords = omega (arith, form-words-length d rs, w .1) in
-    let all : ws ≡ padded (formWords (form d rs)) = f ∙ w .2 old in
+    let all : ws ≡ formRoom capacity d rs = f ∙ w .2 capacity old in
     record {
       few = omega (arith, w .0, w .1);
       rows = w .1;
       words = all;
-      size = rw all (padded-size (formWords (form d rs)) (omega (arith, count, w .0, w .1)));
-      front = rw all (padded-start (formWords (form d rs)) (n * rowWords) count);
+      size = rw all (padded-size (capacity * rowWords) (formWords (form d rs)) (omega (arith, bound, count, w .0, w .1)));
+      front = rw all (padded-start (capacity * rowWords) (formWords (form d rs)) (n * rowWords) count);
     }

@@ -40,7 +40,7 @@ fn normal_form(rows: &[u64], direction: Direction, room: &mut [u64]) -> Laid
 // The word at a place of the first `used` words of a list with zeros after them.
 fn padded_word(from: &[u64], used: usize, i: usize) -> u64
     requires { ⌜ used ≤ length (now from) ⌝ }
-    ensures { λ r. ⌜ r ≡ getD (padded (take used (now (from .entry)))) i 0 ⌝ }
+    ensures { λ r. ⌜ r ≡ getD (padded policyWords (take used (now (from .entry)))) i 0 ⌝ }
 {
     if i < used { from[i] } else { 0 }
 }
@@ -48,7 +48,7 @@ fn padded_word(from: &[u64], used: usize, i: usize) -> u64
 // Writes the first `used` words of a list, and zeros after them.
 fn fill(words: &mut [u64], from: &[u64], used: usize)
     requires { ⌜ (length (now words) ≡ policyWords) × (used ≤ policyWords) × (used ≤ length (now from)) ⌝ }
-    ensures { λ _. ⌜ now (words .exit) ≡ padded (take used (now (from .entry))) ⌝ }
+    ensures { λ _. ⌜ now (words .exit) ≡ padded policyWords (take used (now (from .entry))) ⌝ }
 {
     let mut i: usize = 0;
     while i < POLICY_WORDS {
@@ -61,7 +61,7 @@ fn fill(words: &mut [u64], from: &[u64], used: usize)
 // leave the room as it was.
 pub fn form_of(rows: &[u64], direction: Direction, form: &mut [u64; POLICY_WORDS]) -> Form
     ensures { λ r. ⌜ r ≡ formAnswer rowLimit direction (policyRows (now (rows .entry))) ⌝ }
-    ensures { λ _. ⌜ now (form .exit) ≡ formAfter rowLimit direction (policyRows (now (rows .entry))) (now (form .entry)) ⌝ }
+    ensures { λ _. ⌜ now (form .exit) ≡ formAfter rowLimit rowLimit direction (policyRows (now (rows .entry))) (now (form .entry)) ⌝ }
 {
     let mut room = [0u64; FORM_ROOM];
     let laid = normal_form(rows, direction, &mut room);

@@ -2,6 +2,7 @@
 ghost use mathlib.Core.Path.{_≡_};
 ghost use Rattle.packet.specs.Read.{readTrigger};
 ghost use Rattle.sad.specs.Pairs.{pairs, fitsAt};
+ghost use Rattle.policy.specs.Words.{rowLimit};
 ghost use Rattle.spd_words.specs.Words.{rowsOf, addressOf};
 ghost use Rattle.verdicts.specs.Calls.{triggerRead, fromSaBy};
 ghost use Rattle.gateway.specs.Cached.{outboundCached, inboundCached};
@@ -26,7 +27,7 @@ pub fn outbound(
     cache: Cache,
     bytes: &[u8],
 ) -> Answered
-    ensures { λ r. ⌜ r ≡ outboundCached cache (rowsOf (now (policy .entry)) Direction.Out) (pairs (now (table .entry))) (now (bytes .entry)) ⌝ }
+    ensures { λ r. ⌜ r ≡ outboundCached cache (rowsOf rowLimit (now (policy .entry)) Direction.Out) (pairs (now (table .entry))) (now (bytes .entry)) ⌝ }
 {
     let reading = packet::read(bytes, Direction::Out);
     let Reading::Readable(packet) = reading else {
@@ -53,7 +54,7 @@ pub fn inbound(
     cache: Cache,
     bytes: &[u8],
 ) -> Answered
-    ensures { λ r. ⌜ r ≡ inboundCached cache (rowsOf (now (policy .entry)) Direction.In) (addressOf (now (policy .entry))) (pairs (now (table .entry))) (now (bytes .entry)) ⌝ }
+    ensures { λ r. ⌜ r ≡ inboundCached cache (rowsOf rowLimit (now (policy .entry)) Direction.In) (addressOf (now (policy .entry))) (pairs (now (table .entry))) (now (bytes .entry)) ⌝ }
 {
     let reading = packet::read(bytes, Direction::In);
     let Reading::Readable(packet) = reading else {

@@ -1,6 +1,7 @@
 // The packet calls with the cache lent in place: what `gateway` answers and does to a cache by value, with no copy of it.
 ghost use mathlib.Core.Path.{_≡_};
 ghost use Rattle.sad.specs.Pairs.{pairs};
+ghost use Rattle.policy.specs.Words.{rowLimit};
 ghost use Rattle.spd_words.specs.Words.{rowsOf, addressOf};
 ghost use Rattle.cache_in_place.specs.Lent.{cacheFrom, cacheWords};
 ghost use Rattle.gateway.specs.Cached.{outboundCached, inboundCached};
@@ -17,8 +18,8 @@ pub fn outbound(
     cache: &mut [u64; 706],
     bytes: &[u8],
 ) -> Verdict
-    ensures { λ r. ⌜ r ≡ outboundCached (cacheFrom (now (cache .entry))) (rowsOf (now (policy .entry)) Direction.Out) (pairs (now (table .entry))) (now (bytes .entry)) .verdict ⌝ }
-    ensures { λ _. ⌜ now (cache .exit) ≡ cacheWords (outboundCached (cacheFrom (now (cache .entry))) (rowsOf (now (policy .entry)) Direction.Out) (pairs (now (table .entry))) (now (bytes .entry)) .cache) ⌝ }
+    ensures { λ r. ⌜ r ≡ outboundCached (cacheFrom (now (cache .entry))) (rowsOf rowLimit (now (policy .entry)) Direction.Out) (pairs (now (table .entry))) (now (bytes .entry)) .verdict ⌝ }
+    ensures { λ _. ⌜ now (cache .exit) ≡ cacheWords (outboundCached (cacheFrom (now (cache .entry))) (rowsOf rowLimit (now (policy .entry)) Direction.Out) (pairs (now (table .entry))) (now (bytes .entry)) .cache) ⌝ }
 {
     // As a slice the cache has its length in the proof, also where the packet is not readable.
     let lent: &[u64] = cache;
@@ -39,8 +40,8 @@ pub fn inbound(
     cache: &mut [u64; 706],
     bytes: &[u8],
 ) -> Verdict
-    ensures { λ r. ⌜ r ≡ inboundCached (cacheFrom (now (cache .entry))) (rowsOf (now (policy .entry)) Direction.In) (addressOf (now (policy .entry))) (pairs (now (table .entry))) (now (bytes .entry)) .verdict ⌝ }
-    ensures { λ _. ⌜ now (cache .exit) ≡ cacheWords (inboundCached (cacheFrom (now (cache .entry))) (rowsOf (now (policy .entry)) Direction.In) (addressOf (now (policy .entry))) (pairs (now (table .entry))) (now (bytes .entry)) .cache) ⌝ }
+    ensures { λ r. ⌜ r ≡ inboundCached (cacheFrom (now (cache .entry))) (rowsOf rowLimit (now (policy .entry)) Direction.In) (addressOf (now (policy .entry))) (pairs (now (table .entry))) (now (bytes .entry)) .verdict ⌝ }
+    ensures { λ _. ⌜ now (cache .exit) ≡ cacheWords (inboundCached (cacheFrom (now (cache .entry))) (rowsOf rowLimit (now (policy .entry)) Direction.In) (addressOf (now (policy .entry))) (pairs (now (table .entry))) (now (bytes .entry)) .cache) ⌝ }
 {
     // As a slice the cache has its length in the proof, also where the packet is not readable.
     let lent: &[u64] = cache;

@@ -327,7 +327,7 @@ fn on_bytes(
 
 fn accept(policy: &mut [u64; SPD_WORDS], caches: Caches, bytes: &[u8]) -> Caches
     ensures { λ r. ⌜ r ≡ cachesAfter rowLimit caches (parsePolicy rowLimit (now (bytes .entry))) ⌝ }
-    ensures { λ _. ⌜ now (policy .exit) ≡ spdAfter rowLimit (now (policy .entry)) (parsePolicy rowLimit (now (bytes .entry))) ⌝ }
+    ensures { λ _. ⌜ now (policy .exit) ≡ spdAfter rowLimit rowLimit (now (policy .entry)) (parsePolicy rowLimit (now (bytes .entry))) ⌝ }
 {
     let settled = spd::accept(policy, caches, bytes);
     let acceptance = settled.acceptance;
@@ -336,7 +336,7 @@ fn accept(policy: &mut [u64; SPD_WORDS], caches: Caches, bytes: &[u8]) -> Caches
 }
 
 fn outbound(policy: &[u64; SPD_WORDS], table: &[u64; 1536], caches: Caches, bytes: &[u8]) -> Caches
-    ensures { λ r. ⌜ r .outbound ≡ outboundCached (caches .outbound) (rowsOf (now (policy .entry)) Direction.Out) (pairs (now (table .entry))) (now (bytes .entry)) .cache ⌝ }
+    ensures { λ r. ⌜ r .outbound ≡ outboundCached (caches .outbound) (rowsOf rowLimit (now (policy .entry)) Direction.Out) (pairs (now (table .entry))) (now (bytes .entry)) .cache ⌝ }
     ensures { λ r. ⌜ r .inbound ≡ caches .inbound ⌝ }
 {
     let outbound = caches.outbound;
@@ -352,7 +352,7 @@ fn outbound(policy: &[u64; SPD_WORDS], table: &[u64; 1536], caches: Caches, byte
 }
 
 fn inbound(policy: &[u64; SPD_WORDS], table: &[u64; 1536], caches: Caches, bytes: &[u8]) -> Caches
-    ensures { λ r. ⌜ r .inbound ≡ inboundCached (caches .inbound) (rowsOf (now (policy .entry)) Direction.In) (addressOf (now (policy .entry))) (pairs (now (table .entry))) (now (bytes .entry)) .cache ⌝ }
+    ensures { λ r. ⌜ r .inbound ≡ inboundCached (caches .inbound) (rowsOf rowLimit (now (policy .entry)) Direction.In) (addressOf (now (policy .entry))) (pairs (now (table .entry))) (now (bytes .entry)) .cache ⌝ }
     ensures { λ r. ⌜ r .outbound ≡ caches .outbound ⌝ }
 {
     let outbound = caches.outbound;

@@ -40,6 +40,14 @@ unfoldable pub combinations : List ℕ → ℕ
 combinations [] = 1
 combinations (S ∷ Ss) = S * combinations Ss
 
+-- What fits fields has a range for each.
+pub fits-length : (sizes : List ℕ) (rs : List Range) → Fits sizes rs → length rs ≡ length sizes
+unfolding Fits
+fits-length [] [] f = refl
+fits-length [] (r ∷ rs) f = absurd f
+fits-length (S ∷ Ss) [] f = absurd f
+fits-length (S ∷ Ss) (r ∷ rs) f = ap suc (fits-length Ss rs (f .2))
+
 -- What a row that fits holds is a combination.
 pub fits-combination : (sizes : List ℕ) (rs : List Range) (vs : List ℕ) → Fits sizes rs → holds rs vs ≡ true → Combination sizes vs
 unfolding Fits holds Combination

@@ -9,25 +9,25 @@ use Rattle.selectors.specs.Value.{number}
 use Rattle.packet.specs.declared.Packet.{Packet}
 use mathlib.Core.List.{List}
 use Rattle.sad.specs.Pairs.{Pair}
-use Rattle.verdicts.specs.Calls.{esp, forGateway, toIpsec}
+use Rattle.verdicts.specs.Calls.{espProtocol, ahProtocol, espBytes, ahBytes, esp, forGateway, toIpsec}
 use Rattle.verdicts.specs.declared.Verdict.{Verdict}
 use Rattle.own_ipsec.specs.declared.Own.the-variants.{Answer, NotOwn}
 use Rattle.own_ipsec.specs.Own.{ownAnswer}
 
--- Its protocol is 50 or 51.
-pub own-protocol : (address : ℕ) (k : Packet) → forGateway address k ≡ true → number (k .selectors .protocol) ≡ cond (esp k) 50 51
+-- Its protocol is that of ESP or of AH.
+pub own-protocol : (address : ℕ) (k : Packet) → forGateway address k ≡ true → number (k .selectors .protocol) ≡ cond (esp k) espProtocol ahProtocol
 unfolding forGateway
 own-protocol address k e = by (eqb (number (k .selectors .local)) address) (esp k) refl e
   where
-    by : (a b : Bool) → esp k ≡ b → (a && (b || eqb (number (k .selectors .protocol)) 51)) ≡ true → number (k .selectors .protocol) ≡ cond (esp k) 50 51
+    by : (a b : Bool) → esp k ≡ b → (a && (b || eqb (number (k .selectors .protocol)) ahProtocol)) ≡ true → number (k .selectors .protocol) ≡ cond (esp k) espProtocol ahProtocol
     by true true f e = rw f (eqb-true _ _ f)
     by true false f e = rw f (eqb-true _ _ e)
     by false b f e = let z : _≡_ {A = ℕ} 0 1 = cc in omega arith
 
--- Its upper part has eight bytes at least, once it is not too short.
-pub eight : (b : Bool) → 8 ≤ cond b 8 12
-eight true = omega arith
-eight false = omega arith
+-- Its upper part has what ESP needs at least, once it is not too short.
+pub least-bytes : (b : Bool) → espBytes ≤ cond b espBytes ahBytes
+least-bytes true = omega arith
+least-bytes false = omega arith
 
 -- What an answer says, and what none does.
 module _ (address : ℕ) (ps : List Pair) (p : List ℕ) (k : Packet) where

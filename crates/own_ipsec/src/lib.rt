@@ -1,58 +1,31 @@
 // AH and ESP for the gateway itself (document 01, 'Coming in from outside').
 ghost use mathlib.Core.Path.{_≡_};
-ghost use Prim.Native.Nat.{_+_, _-_, _^_, _≤_, _<_};
+ghost use Prim.Native.Nat.{_+_, _-_, _≤_};
 ghost use mathlib.Core.Bool.{cond};
 ghost use lib.Dec.{eqb};
 ghost use Rattle.selectors.specs.Value.{number};
-ghost use Rattle.packet.specs.Header.{byte, two, four};
 ghost use Rattle.sad.specs.Pairs.{pairs};
-ghost use Rattle.verdicts.specs.Calls.{forGateway, fragment, esp, spiOf, toIpsec};
+ghost use Rattle.verdicts.specs.Calls.{espProtocol, ahProtocol, espBytes, forGateway, fragment, esp, leastUpper, spiOf, toIpsec};
 ghost use Rattle.own_ipsec.specs.Own.{ownAnswer};
 use packet::Packet;
 use selectors::Value;
 use verdicts::Verdict;
 
+// The numbers of `Calls.antt`: protocols, least upper parts, where AH's SPI stands.
 const ESP: u64 = 50;
 
 const AH: u64 = 51;
+
+const ESP_BYTES: usize = 8;
+
+const AH_BYTES: usize = 12;
+
+const AH_SPI_AT: usize = 4;
 
 // What AH or ESP for the gateway is answered; any other packet is not its own.
 pub enum Own {
     Answer(Verdict),
     NotOwn,
-}
-
-fn wide(byte: u8) -> u32
-    ensures { λ r. ⌜ (r ≡ byte) × (r < 256) ⌝ }
-{
-    byte as u32
-}
-
-// The byte at a place; one that is not there counts as 0.
-fn byte_at(bytes: &[u8], i: usize) -> u32
-    ensures { λ r. ⌜ (r ≡ byte (now (bytes .entry)) i) × (r < 256) ⌝ }
-{
-    if i < bytes.len() {
-        return wide(bytes[i]);
-    }
-    0
-}
-
-// Two bytes and four bytes as a number, the first byte the highest.
-fn two_at(bytes: &[u8], i: usize) -> u32
-    requires { ⌜ i + 2 < 2 ^ 64 ⌝ }
-    ensures { λ r. ⌜ (r ≡ two (now (bytes .entry)) i) × (r < 65536) ⌝ }
-{
-    let high = byte_at(bytes, i);
-    let low = byte_at(bytes, i + 1);
-    high * 256 + low
-}
-
-fn four_at(bytes: &[u8], i: usize) -> u32
-    requires { ⌜ i + 4 < 2 ^ 64 ⌝ }
-    ensures { λ r. ⌜ r ≡ four (now (bytes .entry)) i ⌝ }
-{
-    two_at(bytes, i) * 65536 + two_at(bytes, i + 2)
 }
 
 fn has_protocol(packet: Packet, wanted: u64) -> bool
@@ -97,12 +70,12 @@ fn is_fragment(packet: Packet) -> bool
 
 // The fewest bytes that an upper part of ESP or AH may have.
 fn least_upper(packet: Packet) -> usize
-    ensures { λ r. ⌜ r ≡ cond (esp packet) 8 12 ⌝ }
+    ensures { λ r. ⌜ r ≡ leastUpper packet ⌝ }
 {
     if has_protocol(packet, ESP) {
-        return 8;
+        return ESP_BYTES;
     }
-    12
+    AH_BYTES
 }
 
 // The length of the upper part.
@@ -117,7 +90,7 @@ fn upper_length(packet: Packet) -> usize
 
 // The protocol of AH or ESP.
 fn protocol_of(packet: Packet) -> u64
-    ensures { λ r. ⌜ r ≡ cond (esp packet) 50 51 ⌝ }
+    ensures { λ r. ⌜ r ≡ cond (esp packet) espProtocol ahProtocol ⌝ }
 {
     if has_protocol(packet, ESP) {
         return ESP;
@@ -127,18 +100,18 @@ fn protocol_of(packet: Packet) -> u64
 
 // The SPI is upper bytes 0 to 3 for ESP, 4 to 7 for AH.
 fn spi_of(bytes: &[u8], packet: Packet) -> u32
-    requires { ⌜ packet .upper + 8 ≤ packet .end ⌝ }
+    requires { ⌜ packet .upper + espBytes ≤ packet .end ⌝ }
     ensures { λ r. ⌜ r ≡ spiOf (now (bytes .entry)) packet ⌝ }
 {
     if has_protocol(packet, ESP) {
-        return four_at(bytes, packet.upper);
+        return packet::four_at(bytes, packet.upper) as u32;
     }
-    four_at(bytes, packet.upper + 4)
+    packet::four_at(bytes, packet.upper + AH_SPI_AT) as u32
 }
 
 // What becomes of AH or ESP for the gateway.
 fn to_ipsec(table: &[u64; 1536], bytes: &[u8], packet: Packet) -> Verdict
-    requires { ⌜ number (packet .selectors .protocol) ≡ cond (esp packet) 50 51 ⌝ }
+    requires { ⌜ number (packet .selectors .protocol) ≡ cond (esp packet) espProtocol ahProtocol ⌝ }
     ensures { λ r. ⌜ r ≡ toIpsec (pairs (now (table .entry))) (now (bytes .entry)) packet ⌝ }
 {
     if is_fragment(packet) {

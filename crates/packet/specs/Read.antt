@@ -9,14 +9,14 @@ use Rattle.selectors.specs.declared.Value.{Value}
 use Rattle.selectors.specs.declared.Selectors.{Selectors}
 use Rattle.selectors.specs.declared.Direction.{Direction}
 use Rattle.selectors.specs.declared.Direction.the-variants.{Out, In}
-use Rattle.packet.specs.Header.{two, version, headerField, headerEnd, totalLength, moreFragments, fragmentOffset, protocol, source, destination}
+use Rattle.packet.specs.Header.{two, shortestHeader, shortestField, ipVersion, version, headerField, headerEnd, totalLength, moreFragments, fragmentOffset, protocol, source, destination}
 use Rattle.packet.specs.declared.Packet.{Packet}
 use Rattle.packet.specs.declared.Reading.{Reading}
 use Rattle.packet.specs.declared.Reading.the-variants.{Readable, Unreadable}
 
 -- 'At least 20 bytes, version 4, header length field at least 5, total length at least 4 times that field'.
 unfoldable pub headerGood : List ℕ → Bool
-headerGood p = leb 20 (length p) && (eqb (version p) 4 && (leb 5 (headerField p) && leb (headerEnd p) (totalLength p)))
+headerGood p = leb shortestHeader (length p) && (eqb (version p) ipVersion && (leb shortestField (headerField p) && leb (headerEnd p) (totalLength p)))
 
 -- A readable packet: and the total length is 'at most the bytes lent'.
 unfoldable pub readable : List ℕ → Bool
@@ -39,13 +39,22 @@ pub data Shown : Type 0 where
   typeAndCode : ℕ → Shown
   nothing : Shown
 
--- The upper part runs from the header's end to `end`. 'Source and destination port are the first four bytes of the upper part';
--- ICMP 'needs two upper bytes'; 'other protocols, a fragment offset other than 0, or too few upper bytes: both absent'.
+-- 'Source and destination port are the first four bytes of the upper part'; ICMP 'needs two upper bytes'.
+abbrev pub portsBytes : ℕ
+portsBytes = 4
+
+abbrev pub destinationPortAt : ℕ
+destinationPortAt = 2
+
+abbrev pub typeAndCodeBytes : ℕ
+typeAndCodeBytes = 2
+
+-- The upper part runs from the header's end to `end`. 'Other protocols, a fragment offset other than 0, or too few upper bytes: both absent'.
 unfoldable pub shown : List ℕ → ℕ → Shown
 shown p end =
-    cond (eqb (fragmentOffset p) 0 && (hasPorts (protocol p) && leb (headerEnd p + 4) end))
-    (ports (two p (headerEnd p)) (two p (headerEnd p + 2)))
-    (cond (eqb (fragmentOffset p) 0 && (isIcmp (protocol p) && leb (headerEnd p + 2) end))
+    cond (eqb (fragmentOffset p) 0 && (hasPorts (protocol p) && leb (headerEnd p + portsBytes) end))
+    (ports (two p (headerEnd p)) (two p (headerEnd p + destinationPortAt)))
+    (cond (eqb (fragmentOffset p) 0 && (isIcmp (protocol p) && leb (headerEnd p + typeAndCodeBytes) end))
     (typeAndCode (two p (headerEnd p)))
     nothing)
 
@@ -101,12 +110,16 @@ readPacket d p = cond (readable p) (Readable (packetOf d p (totalLength p))) Unr
 unfoldable pub readTrigger : Direction → List ℕ → Reading
 readTrigger d p = cond (triggerReadable p) (Readable (packetOf d p (min (totalLength p) (length p)))) Unreadable
 
--- 'The triggering header starts 8 bytes into the upper part … from there to the upper part's end, empty if that end comes sooner.'
+-- 'The triggering header starts 8 bytes into the upper part'.
+abbrev pub triggerAt : ℕ
+triggerAt = 8
+
+-- The triggering header: 'from there to the upper part's end, empty if that end comes sooner.'
 -- (No upper part ends after the last byte lent.)
 unfoldable pub triggerOf : List ℕ → ℕ → ℕ → List ℕ
 triggerOf p upper end =
     let stop = min end (length p) in
-    let from = min (upper + 8) stop in
+    let from = min (upper + triggerAt) stop in
     take (stop - from) (drop from p)
 
 -- 'A seen type 3, 4, 5, 11 or 12 (the error messages of RFC 1122)'.

@@ -15,8 +15,8 @@ use Rattle.selectors.specs.ValueLaws.{number-lower}
 use Rattle.selectors.specs.declared.Selectors.{Selectors}
 use Rattle.selectors.specs.declared.Direction.{Direction}
 use Rattle.selectors.specs.declared.Direction.the-variants.{Out, In}
-use Rattle.packet.specs.Header.{byte, two, four, headerEnd, totalLength, fragmentOffset, protocol, source, destination}
-use Rattle.packet.specs.Read.{Shown, ports, typeAndCode, nothing, shown, headerGood, readable, triggerReadable, hasPorts, isIcmp, local, remote, localPort, remotePort, value, packetOf, readPacket, readTrigger}
+use Rattle.packet.specs.Header.{byte, two, four, totalLengthAt, flagsAt, protocolAt, sourceAt, destinationAt, shortestHeader, headerEnd, totalLength, fragmentOffset, protocol, source, destination}
+use Rattle.packet.specs.Read.{Shown, ports, typeAndCode, nothing, portsBytes, destinationPortAt, typeAndCodeBytes, shown, headerGood, readable, triggerReadable, hasPorts, isIcmp, local, remote, localPort, remotePort, value, packetOf, readPacket, readTrigger}
 use Rattle.packet.specs.Steps.{Inside, good-header, good-field, good-upper, ports-not-icmp, shown-each, shown-later}
 use Rattle.packet.specs.declared.Packet.{Packet}
 use Rattle.packet.specs.declared.Reading.{Reading}
@@ -165,36 +165,36 @@ module _ (p q : List ℕ) (n : ℕ) (alike : (i : ℕ) → i < n → byte p i �
   unfolding four
   four-alike i h = rw (two-alike i (omega arith), two-alike (i + 2) (omega arith))
 
-  headerGood-alike : 20 ≤ n → n ≤ length p → n ≤ length q → headerGood p ≡ headerGood q
+  headerGood-alike : shortestHeader ≤ n → n ≤ length p → n ≤ length q → headerGood p ≡ headerGood q
   unfolding headerGood
   headerGood-alike h l m =
-      rw (le-leb 20 (length p) (omega arith), le-leb 20 (length q) (omega arith), alike 0 (omega arith), two-alike 2 (omega arith))
+      rw (le-leb shortestHeader (length p) (omega arith), le-leb shortestHeader (length q) (omega arith), alike 0 (omega arith), two-alike totalLengthAt (omega arith))
 
-  shown-alike : (end : ℕ) → 20 ≤ n → end ≤ n → shown p end ≡ shown q end
+  shown-alike : (end : ℕ) → shortestHeader ≤ n → end ≤ n → shown p end ≡ shown q end
   unfolding shown
   shown-alike end h l =
-      rw (alike 0 (omega arith), alike 6 (omega arith), alike 7 (omega arith), alike 9 (omega arith))
+      rw (alike 0 (omega arith), alike flagsAt (omega arith), alike (flagsAt + 1) (omega arith), alike protocolAt (omega arith))
       (cond-alike _ _ _ _ _
-      (λ e. let f : headerEnd q + 4 ≤ end = leb-true _ _ (upper (hasPorts (protocol q)) _ e) in
-      rw (two-alike (headerEnd q) (omega arith), two-alike (headerEnd q + 2) (omega arith)))
+      (λ e. let f : headerEnd q + portsBytes ≤ end = leb-true _ _ (upper (hasPorts (protocol q)) _ e) in
+      rw (two-alike (headerEnd q) (omega arith), two-alike (headerEnd q + destinationPortAt) (omega arith)))
       (cond-alike _ _ _ _ _
-      (λ e. let f : headerEnd q + 2 ≤ end = leb-true _ _ (upper (isIcmp (protocol q)) _ e) in
+      (λ e. let f : headerEnd q + typeAndCodeBytes ≤ end = leb-true _ _ (upper (isIcmp (protocol q)) _ e) in
       rw (two-alike (headerEnd q) (omega arith)))
       refl))
     where
       upper : (b c : Bool) → (eqb (fragmentOffset q) 0 && (b && c)) ≡ true → c ≡ true
       upper b c e = both-true b c (both-true (eqb (fragmentOffset q) 0) (b && c) e .1) .1
 
-  packetOf-alike : (d : Direction) (end : ℕ) → 20 ≤ n → end ≤ n → packetOf d p end ≡ packetOf d q end
+  packetOf-alike : (d : Direction) (end : ℕ) → shortestHeader ≤ n → end ≤ n → packetOf d p end ≡ packetOf d q end
   packetOf-alike d end h l =
       rw (
-        four-alike 12 (omega arith),
-        four-alike 16 (omega arith),
+        four-alike sourceAt (omega arith),
+        four-alike destinationAt (omega arith),
         shown-alike end h l,
         alike 0 (omega arith),
-        alike 6 (omega arith),
-        alike 7 (omega arith),
-        alike 9 (omega arith),
+        alike flagsAt (omega arith),
+        alike (flagsAt + 1) (omega arith),
+        alike protocolAt (omega arith),
       )
 
 -- Two packets that are alike up to the total length of one that is readable read alike.
@@ -204,8 +204,8 @@ unfolding readPacket readable
 read-alike d p q e l alike =
     let n = totalLength p in
     let g = both-true (headerGood p) _ e in
-    let h : 20 ≤ n = omega (arith, good-field p (g .0), good-upper p (g .0)) in
-    let t : n ≡ totalLength q = two-alike p q n alike 2 (omega arith) in
+    let h : shortestHeader ≤ n = omega (arith, good-field p (g .0), good-upper p (g .0)) in
+    let t : n ≡ totalLength q = two-alike p q n alike totalLengthAt (omega arith) in
     let g′ : headerGood q ≡ true = sym (headerGood-alike p q n alike h (leb-true _ _ (g .1)) l) ∙ g .0 in
     let l′ : totalLength q ≤ length q = omega arith in
     rw (e, g′, le-leb (totalLength q) (length q) l′)
@@ -253,7 +253,7 @@ Below nothing = Unit
 pub shown-below : (p : List ℕ) → Bytes p → (end : ℕ) → Below (shown p end)
 shown-below p b end =
     let two-at = two-below p b in
-    shown-each p end Below (λ e. (two-at (headerEnd p), two-at (headerEnd p + 2))) (λ e. two-at (headerEnd p)) tt
+    shown-each p end Below (λ e. (two-at (headerEnd p), two-at (headerEnd p + destinationPortAt))) (λ e. two-at (headerEnd p)) tt
 
 -- Each value that is read is one of its field: a port is below 65,536 or is absent.
 pub record InFields (s : Selectors) : Type 0 where
@@ -289,9 +289,9 @@ read-in-fields d p k b s =
     let w = shown-below p b (s .end) in
     rw (sym (s .is))
     record {
-      local = number-below _ _ (local-below d _ _ _ (four-below p b 12) (four-below p b 16));
-      remote = number-below _ _ (remote-below d _ _ _ (four-below p b 12) (four-below p b 16));
-      protocol = number-below _ _ (b 9);
+      local = number-below _ _ (local-below d _ _ _ (four-below p b sourceAt) (four-below p b destinationAt));
+      remote = number-below _ _ (remote-below d _ _ _ (four-below p b sourceAt) (four-below p b destinationAt));
+      protocol = number-below _ _ (b protocolAt);
       local-port = number-below _ _ (localPort-below d (shown p (s .end)) w);
       remote-port = number-below _ _ (remotePort-below d (shown p (s .end)) w);
     }

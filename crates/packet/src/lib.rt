@@ -1,9 +1,9 @@
 // What the gateway sees in an IPv4 packet: five selectors, and what the packet calls need besides (document 01; docs/RULES.md, 'What is read in a packet').
 ghost use mathlib.Core.Path.{_≡_};
-ghost use Prim.Native.Nat.{_+_, _≤_, _<_, min};
+ghost use Prim.Native.Nat.{_+_, _-_, _^_, _≤_, _<_, min};
 ghost use lib.ListN.{length};
 ghost use Rattle.selectors.specs.Value.{number};
-ghost use Rattle.packet.specs.Header.{two, four, headerEnd, totalLength, fragmentOffset};
+ghost use Rattle.packet.specs.Header.{two, four, totalLengthAt, flagsAt, headerEnd, totalLength, fragmentOffset};
 ghost use Rattle.packet.specs.Read.{headerGood, hasPorts, shown, local, localPort, remotePort, value, packetOf, readPacket, readTrigger, triggerOf, errorType, icmpError};
 ghost use Rattle.packet.specs.Steps.{Inside};
 use selectors::ABSENT;
@@ -26,6 +26,32 @@ pub enum Reading {
     Unreadable,
 }
 
+// The numbers of `Header.antt`, by the same names: where fields of the header stand, its sizes, its version.
+const TOTAL_LENGTH_AT: usize = 2;
+
+const FLAGS_AT: usize = 6;
+
+const PROTOCOL_AT: usize = 9;
+
+const SOURCE_AT: usize = 12;
+
+const DESTINATION_AT: usize = 16;
+
+const SHORTEST_HEADER: usize = 20;
+
+const LENGTH_UNIT: usize = 4;
+
+const IP_VERSION: u64 = 4;
+
+// The numbers of `Read.antt`, of the upper part.
+const PORTS_BYTES: usize = 4;
+
+const DESTINATION_PORT_AT: usize = 2;
+
+const TYPE_AND_CODE_BYTES: usize = 2;
+
+const TRIGGER_AT: usize = 8;
+
 const ICMP: u64 = 1;
 
 fn wide(byte: u8) -> u64
@@ -34,56 +60,88 @@ fn wide(byte: u8) -> u64
     byte as u64
 }
 
-// Two bytes and four bytes as a number, the first byte the highest.
-fn two_at(bytes: &[u8], i: usize) -> u64
+// Two bytes and four bytes as a number, the first byte the highest, where all are there.
+fn two_there(bytes: &[u8], i: usize) -> u64
     requires { ⌜ i + 2 ≤ length (now bytes) ⌝ }
-    ensures { λ r. ⌜ (r ≡ two (now (bytes .entry)) i) × (r < 65536) ⌝ }
+    ensures { λ r. ⌜ (r ≡ two (now (bytes .entry)) i) × (r < 2 ^ 16) ⌝ }
 {
     let high = wide(bytes[i]);
     let low = wide(bytes[i + 1]);
     high * 256 + low
 }
 
-fn four_at(bytes: &[u8], i: usize) -> u64
+fn four_there(bytes: &[u8], i: usize) -> u64
     requires { ⌜ i + 4 ≤ length (now bytes) ⌝ }
-    ensures { λ r. ⌜ r ≡ four (now (bytes .entry)) i ⌝ }
+    ensures { λ r. ⌜ (r ≡ four (now (bytes .entry)) i) × (r < 2 ^ 32) ⌝ }
 {
-    two_at(bytes, i) * 65536 + two_at(bytes, i + 2)
+    two_there(bytes, i) * 65536 + two_there(bytes, i + 2)
+}
+
+// How far `end` lies past a place: 0 where it does not.
+fn past(place: usize, end: usize) -> usize
+    ensures { λ r. ⌜ r ≡ end - place ⌝ }
+{
+    if place < end { end - place } else { 0 }
+}
+
+// The same numbers from any place on: a byte that is not there counts as 0.
+pub fn two_at(bytes: &[u8], i: usize) -> u64
+    ensures { λ r. ⌜ (r ≡ two (now (bytes .entry)) i) × (r < 2 ^ 16) ⌝ }
+{
+    match past(i, bytes.len()) {
+        0 => 0,
+        1 => wide(bytes[i]) * 256,
+        _ => two_there(bytes, i),
+    }
+}
+
+pub fn four_at(bytes: &[u8], i: usize) -> u64
+    ensures { λ r. ⌜ (r ≡ four (now (bytes .entry)) i) × (r < 2 ^ 32) ⌝ }
+{
+    let left = past(i, bytes.len());
+    if 4 <= left {
+        return four_there(bytes, i);
+    }
+    let high = two_at(bytes, i) * 65536;
+    if left == 3 {
+        return high + two_at(bytes, i + 2);
+    }
+    high
 }
 
 fn header_end(bytes: &[u8]) -> usize
     requires { ⌜ 1 ≤ length (now bytes) ⌝ }
     ensures { λ r. ⌜ r ≡ headerEnd (now (bytes .entry)) ⌝ }
 {
-    4 * (wide(bytes[0]) % 16) as usize
+    LENGTH_UNIT * (wide(bytes[0]) % 16) as usize
 }
 
 fn total_length(bytes: &[u8]) -> usize
-    requires { ⌜ 4 ≤ length (now bytes) ⌝ }
+    requires { ⌜ totalLengthAt + 2 ≤ length (now bytes) ⌝ }
     ensures { λ r. ⌜ r ≡ totalLength (now (bytes .entry)) ⌝ }
 {
-    two_at(bytes, 2) as usize
+    two_there(bytes, TOTAL_LENGTH_AT) as usize
 }
 
 fn fragment_offset(bytes: &[u8]) -> u64
-    requires { ⌜ 8 ≤ length (now bytes) ⌝ }
+    requires { ⌜ flagsAt + 2 ≤ length (now bytes) ⌝ }
     ensures { λ r. ⌜ r ≡ fragmentOffset (now (bytes .entry)) ⌝ }
 {
-    wide(bytes[6]) % 32 * 256 + wide(bytes[7])
+    wide(bytes[FLAGS_AT]) % 32 * 256 + wide(bytes[FLAGS_AT + 1])
 }
 
 // Whether this is a header that can be read, wherever the packet ends.
 fn header_good(bytes: &[u8]) -> bool
     ensures { λ r. ⌜ r ≡ headerGood (now (bytes .entry)) ⌝ }
 {
-    if bytes.len() < 20 {
+    if bytes.len() < SHORTEST_HEADER {
         return false;
     }
-    if wide(bytes[0]) / 16 != 4 {
+    if wide(bytes[0]) / 16 != IP_VERSION {
         return false;
     }
     let upper = header_end(bytes);
-    if upper < 20 {
+    if upper < SHORTEST_HEADER {
         return false;
     }
     upper <= total_length(bytes)
@@ -139,11 +197,11 @@ fn ports_at(bytes: &[u8], direction: Direction, end: usize) -> Ports
         return none;
     }
     let upper = header_end(bytes);
-    let protocol = wide(bytes[9]);
+    let protocol = wide(bytes[PROTOCOL_AT]);
     if has_ports(protocol) {
-        if upper + 4 <= end {
-            let source = two_at(bytes, upper);
-            let destination = two_at(bytes, upper + 2);
+        if upper + PORTS_BYTES <= end {
+            let source = two_there(bytes, upper);
+            let destination = two_there(bytes, upper + DESTINATION_PORT_AT);
             return Ports {
                 local: local(direction, source, destination),
                 remote: local(direction, destination, source),
@@ -152,11 +210,11 @@ fn ports_at(bytes: &[u8], direction: Direction, end: usize) -> Ports
         return none;
     }
     if protocol == ICMP {
-        if upper + 2 <= end {
+        if upper + TYPE_AND_CODE_BYTES <= end {
             return Ports {
                 local: Value {
                     upper: 0,
-                    lower: two_at(bytes, upper),
+                    lower: two_there(bytes, upper),
                 },
                 remote: ABSENT,
             };
@@ -173,21 +231,21 @@ fn packet_at(bytes: &[u8], direction: Direction, end: usize) -> Packet
     let ports = ports_at(bytes, direction, end);
     let local_port = ports.local;
     let remote_port = ports.remote;
-    let source = four_at(bytes, 12);
-    let destination = four_at(bytes, 16);
+    let source = four_there(bytes, SOURCE_AT);
+    let destination = four_there(bytes, DESTINATION_AT);
     Packet {
         selectors: Selectors {
             local: local(direction, source, destination),
             remote: local(direction, destination, source),
             protocol: Value {
                 upper: 0,
-                lower: wide(bytes[9]),
+                lower: wide(bytes[PROTOCOL_AT]),
             },
             local_port,
             remote_port,
         },
         offset: fragment_offset(bytes),
-        more_fragments: wide(bytes[6]) / 32 % 2 == 1,
+        more_fragments: wide(bytes[FLAGS_AT]) / 32 % 2 == 1,
         upper: header_end(bytes),
         end,
     }
@@ -228,25 +286,13 @@ pub fn read_trigger(bytes: &[u8], direction: Direction) -> Reading
     Reading::Readable(packet_at(bytes, direction, end))
 }
 
-// Eight bytes further, but not past `stop`.
-fn eight_on(from: usize, stop: usize) -> usize
-    ensures { λ r. ⌜ r ≡ min (from + 8) stop ⌝ }
-{
-    if stop <= from {
-        return stop;
-    }
-    if stop - from <= 8 {
-        return stop;
-    }
-    from + 8
-}
-
-// The part of an ICMP error message that has the triggering header: from 8 bytes into the upper part on.
+// The part of an ICMP error message that has the triggering header.
 pub fn trigger(bytes: &[u8], packet: Packet) -> &[u8]
     ensures { λ r. ⌜ now r ≡ triggerOf (now (bytes .entry)) (packet .upper) (packet .end) ⌝ }
 {
     let stop = least(packet.end, bytes.len());
-    let from = eight_on(packet.upper, stop);
+    let length = past(TRIGGER_AT, past(packet.upper, stop));
+    let from = stop - length;
     &bytes[from..stop]
 }
 

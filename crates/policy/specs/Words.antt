@@ -65,9 +65,13 @@ wordsWith first second rs = first ∷ second ∷ wordsOfRanges rs
 abbrev pub wordsOfRow : PolicyRow → List ℕ
 wordsOfRow r = wordsWith (directionWord (r .direction)) (actionWord (r .action)) (r .ranges)
 
-unfoldable pub wordsOf : List PolicyRow → List ℕ
-wordsOf [] = []
-wordsOf (r ∷ rs) = wordsOfRow r ++ wordsOf rs
+-- The words of several things, one after the other.
+unfoldable pub wordsOfAll : {A : Type 0} → (A → List ℕ) → List A → List ℕ
+wordsOfAll words [] = []
+wordsOfAll words (x ∷ xs) = words x ++ wordsOfAll words xs
+
+abbrev pub wordsOf : List PolicyRow → List ℕ
+wordsOf rs = wordsOfAll wordsOfRow rs
 
 -- Rows as records: the policy row that a record is, and its words. Every word of a record means something, as in a flat list of words.
 abbrev pub rangesOf : Row → List Range
@@ -95,6 +99,5 @@ endsOfRecord r =
 abbrev pub wordsOfRecord : Row → List ℕ
 wordsOfRecord r = wordsWith (r .direction) (r .action) (rangesOf r)
 
-unfoldable pub wordsOfRecords : List Row → List ℕ
-wordsOfRecords [] = []
-wordsOfRecords (r ∷ rs) = wordsOfRecord r ++ wordsOfRecords rs
+abbrev pub wordsOfRecords : List Row → List ℕ
+wordsOfRecords rs = wordsOfAll wordsOfRecord rs

@@ -15,7 +15,7 @@ use Rattle.policy.specs.declared.RowDirection.{RowDirection}
 use Rattle.policy.specs.declared.RowDirection.the-variants.{Only, Both}
 use Rattle.policy.specs.declared.Row.{Row}
 use Rattle.policy.specs.Policy.{PolicyRow, orderedSearch}
-use Rattle.policy.specs.Words.{directionOf, directionWord, actionOf, actionWord, rowWords, rowAt, rowsFrom, policyRows, wordsWith, wordsOfRow, wordsOf, rangesOf, rowOf, wordsOfRecord, wordsOfRecords}
+use Rattle.policy.specs.Words.{directionOf, directionWord, actionOf, actionWord, rowWords, rowAt, rowsFrom, policyRows, wordsWith, wordsOfRow, wordsOfAll, wordsOf, rangesOf, rowOf, wordsOfRecord, wordsOfRecords}
 use Rattle.policy.specs.WordsLaws.{word-action}
 
 pub direction-word : (d : RowDirection) → directionOf (directionWord d) ≡ d
@@ -62,43 +62,73 @@ five-words a b c d e = refl
 pub ranges-words : (rs : List Range) → length rs ≡ fieldCount → length (wordsOfRanges rs) ≡ rangesWords
 ranges-words rs f = five-ranges (λ (qs : List Range). length (wordsOfRanges qs) ≡ rangesWords) five-words rs f
 
--- Things whose words are rows: written one after the other from the row i on, they are read there.
+-- Things that are rows, by two words and the ranges of each: written one after the other from the row i on, they are read there.
 module _ (A : Type 0) (first second : A → ℕ) (ranges : A → List Range) where
-  unfoldable pub written : List A → List ℕ
-  written [] = []
-  written (x ∷ xs) = wordsWith (first x) (second x) (ranges x) ++ written xs
+  abbrev pub words : A → List ℕ
+  words x = wordsWith (first x) (second x) (ranges x)
 
   abbrev pub readRow : A → PolicyRow
   readRow x = rowWith (first x) (second x) (ranges x)
 
+  -- Each has a range for each field.
   unfoldable pub AllFive : List A → Type 0
   AllFive [] = Unit
   AllFive (x ∷ xs) = (length (ranges x) ≡ fieldCount) × AllFive xs
 
-  written-from : (ws : List ℕ) (i : ℕ) (xs : List A) (rest : List ℕ) → AllFive xs → drop (i * rowWords) ws ≡ written xs ++ rest
+  written-from : (ws : List ℕ) (i : ℕ) (xs : List A) (rest : List ℕ) → AllFive xs → drop (i * rowWords) ws ≡ wordsOfAll words xs ++ rest
       → rowsFrom ws i (length xs) ≡ map readRow xs
-  unfolding written AllFive rowsFrom
+  unfolding wordsOfAll AllFive rowsFrom
   written-from ws i [] rest f e = refl
   written-from ws i (x ∷ xs) rest f e =
-      let here : drop (i * rowWords) ws ≡ wordsWith (first x) (second x) (ranges x) ++ (written xs ++ rest)
-      = e ∙ append-assoc (wordsWith (first x) (second x) (ranges x)) (written xs) rest in
-      let both = row-read (first x) (second x) (ranges x) (f .0) (written xs ++ rest) in
+      let here : drop (i * rowWords) ws ≡ words x ++ (wordsOfAll words xs ++ rest) = e ∙ append-assoc (words x) (wordsOfAll words xs) rest in
+      let both = row-read (first x) (second x) (ranges x) (f .0) (wordsOfAll words xs ++ rest) in
       let one : rowAt ws (i * rowWords) ≡ readRow x = row-from ws (i * rowWords) ∙ ap (λ (t : List ℕ). rowAt t 0) here ∙ both .0 in
       let k : suc i * rowWords ≡ i * rowWords + rowWords = omega arith in
-      let next : drop (suc i * rowWords) ws ≡ written xs ++ rest
+      let next : drop (suc i * rowWords) ws ≡ wordsOfAll words xs ++ rest
       = rw k (sym (drop-drop rowWords (i * rowWords) ws) ∙ ap (drop rowWords) here ∙ both .1) in
       rw (one, written-from ws (suc i) xs rest (f .1) next)
 
-  pub written-length : (xs : List A) → AllFive xs → length (written xs) ≡ length xs * rowWords
-  unfolding written AllFive
+  pub written-length : (xs : List A) → AllFive xs → length (wordsOfAll words xs) ≡ length xs * rowWords
+  unfolding wordsOfAll AllFive
   written-length [] f = refl
   written-length (x ∷ xs) f =
       let n = ranges-words (ranges x) (f .0) in
       let m = written-length xs (f .1) in
-      omega (arith, length-append (wordsOfRanges (ranges x)) (written xs))
+      omega (arith, length-append (wordsOfRanges (ranges x)) (wordsOfAll words xs))
 
   -- What was written is read.
-  pub written-rows : (xs : List A) → AllFive xs → policyRows (written xs) ≡ map readRow xs
+  pub written-rows : (xs : List A) → AllFive xs → policyRows (wordsOfAll words xs) ≡ map readRow xs
   written-rows xs f =
-      let k : length (written xs) / rowWords ≡ length xs = omega (arith, written-length xs f) in
-      rw k (written-from (written xs) 0 xs [] f (sym (append-nil (written xs))))
+      let k : length (wordsOfAll words xs) / rowWords ≡ length xs = omega (arith, written-length xs f) in
+      rw k (written-from (wordsOfAll words xs) 0 xs [] f (sym (append-nil (wordsOfAll words xs))))
+
+-- A policy's rows.
+abbrev pub FiveEach : List PolicyRow → Type 0
+FiveEach rs = AllFive PolicyRow (λ r. directionWord (r .direction)) (λ r. actionWord (r .action)) (λ r. r .ranges) rs
+
+pub words-length : (rs : List PolicyRow) → FiveEach rs → length (wordsOf rs) ≡ length rs * rowWords
+words-length rs f = written-length PolicyRow (λ r. directionWord (r .direction)) (λ r. actionWord (r .action)) (λ r. r .ranges) rs f
+
+same-rows : (rs : List PolicyRow) → map (readRow PolicyRow (λ r. directionWord (r .direction)) (λ r. actionWord (r .action)) (λ r. r .ranges)) rs ≡ rs
+same-rows [] = refl
+same-rows (r ∷ rs) = rw (direction-word (r .direction), word-action (r .action), same-rows rs)
+
+pub words-rows : (rs : List PolicyRow) → FiveEach rs → policyRows (wordsOf rs) ≡ rs
+words-rows rs f =
+    written-rows PolicyRow (λ r. directionWord (r .direction)) (λ r. actionWord (r .action)) (λ r. r .ranges) rs f ∙ same-rows rs
+
+-- Records.
+all-records : (rs : List Row) → AllFive Row (λ r. r .direction) (λ r. r .action) rangesOf rs
+unfolding AllFive
+all-records [] = tt
+all-records (r ∷ rs) = (refl, all-records rs)
+
+pub record-length : (r : Row) → length (wordsOfRecord r) ≡ rowWords
+record-length r = omega (arith, ranges-words (rangesOf r) refl)
+
+pub records-rows : (rs : List Row) → policyRows (wordsOfRecords rs) ≡ map rowOf rs
+records-rows rs = written-rows Row (λ r. r .direction) (λ r. r .action) rangesOf rs (all-records rs)
+
+-- 'Likewise the ordered search is also offered over a lent list of row records': the same search.
+pub records-search : (d : Direction) (rs : List Row) (vs : List ℕ) → orderedSearch d (policyRows (wordsOfRecords rs)) vs ≡ orderedSearch d (map rowOf rs) vs
+records-search d rs vs = rw (records-rows rs)

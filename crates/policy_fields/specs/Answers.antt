@@ -1,6 +1,6 @@
 -- What the code answers, for what the definitions say. Assumes nothing: these are definitions.
 use Prim.Native.Nat.{ℕ}
-use mathlib.Core.List.{List, [], _∷_, _++_}
+use mathlib.Core.List.{List, []}
 use mathlib.Core.Option.{Option, none, some}
 use Rattle.selectors.specs.Range.{Range}
 use Rattle.selectors.specs.declared.Value.{Value}
@@ -12,14 +12,12 @@ use Rattle.selectors.specs.declared.NewPortRange.{NewPortRange}
 use Rattle.selectors.specs.declared.NewPortRange.the-variants.{Made as PortMade, Refused as PortRefused}
 use Rattle.policy.specs.declared.Action.{Action}
 use Rattle.policy.specs.declared.RowDirection.{RowDirection}
-use Rattle.policy.specs.Words.{actionWord}
+use Rattle.policy.specs.Words.{directionWord, actionWord, wordsOfRecord}
 use Rattle.policy_text.specs.declared.Number.{Number}
 use Rattle.policy_text.specs.declared.Number.the-variants.{Is, Bad}
-use Rattle.policy_fields.specs.declared.Entry.{Entry}
 use Rattle.policy_fields.specs.declared.RowText.{RowText}
 use Rattle.policy_fields.specs.declared.RowText.the-variants.{Row as RowIs, Bad as RowBad}
 use Rattle.policy_text.specs.Format.{addressField, protocolField, portField, directionField, actionField, field, fieldsFrom}
-use Rattle.policy_text.specs.RowWords.{directionWord}
 
 -- A number of 64 bits as a value.
 abbrev pub small : ℕ → Value
@@ -64,19 +62,7 @@ entryOf s =
     (addressFor (addressField (field 3 s))) (protocolFor (protocolField (field 4 s))) (portFor (portField (field 5 s)))
     (portFor (portField (fieldsFrom 6 s)))
 
-abbrev pub valueWords : Value → List ℕ
-valueWords v = v .upper ∷ v .lower ∷ []
-
--- The 22 words of an entry.
-abbrev pub entryWords : Entry → List ℕ
-entryWords e =
-    e .direction ∷ e .action
-    ∷ valueWords (e .local .low) ++ valueWords (e .local .high)
-    ++ valueWords (e .remote .low) ++ valueWords (e .remote .high)
-    ++ valueWords (e .protocol .low) ++ valueWords (e .protocol .high)
-    ++ valueWords (e .«local_port» .low) ++ valueWords (e .«local_port» .high)
-    ++ valueWords (e .«remote_port» .low) ++ valueWords (e .«remote_port» .high)
-
+-- The words of a row's text; a bad row has none.
 abbrev pub textWords : RowText → List ℕ
 textWords RowBad = []
-textWords (RowIs e) = entryWords e
+textWords (RowIs e) = wordsOfRecord e

@@ -4,6 +4,7 @@ ghost use Rattle.selectors.specs.Range.{addressSize, protocolSize, portSize};
 ghost use Rattle.policy_text.specs.Format.{address, isMask, maskedRange, spanned, addressField, protocolField, portEnd, portField, directionField, actionField, protect};
 ghost use Rattle.policy_fields.specs.Answers.{small, addressFor, protocolFor, portFor, directionFor, actionFor, entryFor, entryOf};
 ghost use Rattle.policy_text.specs.FormatLaws.{AtMost};
+use policy::Row;
 use policy_text::Number;
 use policy_text::after;
 use policy_text::before;
@@ -19,19 +20,8 @@ use selectors::PortRange;
 use selectors::ProtocolRange;
 use selectors::Value;
 
-// The words and ranges of a row.
-pub struct Entry {
-    pub direction: u64,
-    pub action: u64,
-    pub local: AddressRange,
-    pub remote: AddressRange,
-    pub protocol: ProtocolRange,
-    pub local_port: PortRange,
-    pub remote_port: PortRange,
-}
-
 pub enum RowText {
-    Row(Entry),
+    Row(Row),
     Bad,
 }
 
@@ -262,7 +252,7 @@ fn entry_of(
     let NewPortRange::Made(remote_port) = remote_port else {
         return RowText::Bad;
     };
-    RowText::Row(Entry {
+    RowText::Row(Row {
         direction,
         action,
         local,

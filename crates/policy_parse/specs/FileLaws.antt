@@ -8,12 +8,13 @@ use mathlib.Core.List.{List}
 use lib.ListN.{length, getD, take, drop}
 use lib.Seq.{sets-eq}
 use borrow.Author.Tests.{le-leb, lt-leb, eq-eqb, ne-eqb}
+use Rattle.policy.specs.Words.{rowWords, wordsOf}
+use Rattle.policy.specs.WrittenLaws.{words-length}
 use Rattle.policy_text.specs.declared.Parsed.the-variants.{Rows, NotHeader, NotEnded, TooMany, BadRow, NoRoom}
 use Rattle.policy_text.specs.Bytes.{lf, count, sameBytes}
 use Rattle.policy_text.specs.Format.{header, linesOf, refused, rows, rowsOf, parsePolicy}
-use Rattle.policy_text.specs.RowWords.{wordsOf}
 use Rattle.policy_round_trip.specs.Accepted.{rows-printable}
-use Rattle.policy_round_trip.specs.Words.{all-five, words-length}
+use Rattle.policy_round_trip.specs.Words.{all-five}
 use Rattle.policy_parse.specs.Parsing.{written, badOf, parsedIn, parsedRoom}
 use Rattle.policy_parse.specs.RowsLaws.{Read, good, bad, read, written-rows}
 
@@ -47,26 +48,26 @@ module _ (ls : List (List ℕ)) where
       by (bad j q m) = let f : k ≡ j = e ∙ rw q in rw f q
 
   module _ (room : List ℕ) (none-bad : badOf (rowsOf 1 ls) ≡ 0) where
-    pub parsed-fits : length ls * 22 ≤ length room
+    pub parsed-fits : length ls * rowWords ≤ length room
         → (parsedIn (length room) (rowsOf 1 ls) ≡ Rows (length ls)) × (parsedRoom room (rowsOf 1 ls) ≡ written room 0 ls)
     parsed-fits h = by (read 1 ls)
       where
         by : Read 1 ls → (parsedIn (length room) (rowsOf 1 ls) ≡ Rows (length ls)) × (parsedRoom room (rowsOf 1 ls) ≡ written room 0 ls)
         by (good rs q m) =
-            let g : length rs * 22 ≤ length room = omega arith in
+            let g : length rs * rowWords ≤ length room = omega arith in
             let w = words-length rs (all-five rs (rows-printable 1 ls rs q)) in (
-              rw (q, le-leb (length rs * 22) (length room) g, m),
-              rw (q, le-leb (length rs * 22) (length room) g, sym w)
+              rw (q, le-leb (length rs * rowWords) (length room) g, m),
+              rw (q, le-leb (length rs * rowWords) (length room) g, sym w)
                   (sym (written-rows room 0 1 ls rs q ∙ sets-eq (wordsOf rs) room 0 (omega arith) ∙ rw zero-add)),
             )
         by (bad j q m) = let f = rw q at none-bad in absurd (omega arith)
 
-    pub parsed-short : length room < length ls * 22
+    pub parsed-short : length room < length ls * rowWords
         → (parsedIn (length room) (rowsOf 1 ls) ≡ NoRoom) × (parsedRoom room (rowsOf 1 ls) ≡ room)
     parsed-short h = by (read 1 ls)
       where
         by : Read 1 ls → (parsedIn (length room) (rowsOf 1 ls) ≡ NoRoom) × (parsedRoom room (rowsOf 1 ls) ≡ room)
         by (good rs q m) =
-            let g : length room < length rs * 22 = omega arith in
-            (rw (q, lt-leb (length rs * 22) (length room) g), rw (q, lt-leb (length rs * 22) (length room) g))
+            let g : length room < length rs * rowWords = omega arith in
+            (rw (q, lt-leb (length rs * rowWords) (length room) g), rw (q, lt-leb (length rs * rowWords) (length room) g))
         by (bad j q m) = let f = rw q at none-bad in absurd (omega arith)

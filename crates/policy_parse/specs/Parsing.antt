@@ -5,11 +5,10 @@ use mathlib.Core.List.{List, [], _∷_, _++_}
 use lib.Dec.{leb}
 use lib.ListN.{length, drop}
 use lib.Seq.{sets}
-use Rattle.policy.specs.Words.{rowWords}
+use Rattle.policy.specs.Words.{rowWords, wordsOf}
 use Rattle.policy_text.specs.declared.Parsed.{Parsed}
 use Rattle.policy_text.specs.declared.Parsed.the-variants.{Rows, NotHeader, NotEnded, TooMany, BadRow, NoRoom}
 use Rattle.policy_text.specs.Format.{Policy, refused, rows}
-use Rattle.policy_text.specs.RowWords.{wordsOf}
 use Rattle.policy_fields.specs.Answers.{entryOf, textWords}
 
 -- A room in which the words of each line, of which the first is row i, are put at the row's place.

@@ -7,13 +7,13 @@ use mathlib.Core.Option.{Option, none, some}
 use lib.ListN.{length}
 use lib.Seq.{sets}
 use Rattle.policy.specs.Policy.{PolicyRow}
-use Rattle.policy_fields.specs.declared.Entry.{Entry}
+use Rattle.policy.specs.declared.Row.{Row}
 use Rattle.policy_fields.specs.declared.RowText.the-variants.{Row as RowIs, Bad as RowBad}
+use Rattle.policy.specs.Words.{rowWords, wordsOfRow, wordsOf, wordsOfAll}
 use Rattle.policy_text.specs.declared.Parsed.the-variants.{BadRow}
 use Rattle.policy_text.specs.Bytes.{lf, before, after}
 use Rattle.policy_text.specs.Format.{rowOf, linesOf, Policy, refused, rows, onto, rowsOf}
 use Rattle.selectors.specs.StoresLaws.{sets-more}
-use Rattle.policy_text.specs.RowWords.{wordsOfRow, wordsOf}
 use Rattle.policy_fields.specs.Answers.{entryOf, textWords}
 use Rattle.policy_fields.specs.EntryLaws.{bad-none, entry-some, line-words}
 use Rattle.policy_parse.specs.Parsing.{written, badOf}
@@ -36,7 +36,7 @@ module _ (s : List ℕ) (i n : ℕ) (h : i < n) where
   unfolding rowsOf
   bad-line e = rw (one-line, bad-none (before lf s) e)
 
-  pub good-line : (e : Entry) → entryOf (before lf s) ≡ RowIs e
+  pub good-line : (e : Row) → entryOf (before lf s) ≡ RowIs e
       → badOf (rowsOf (i + 1) (linesOf (n - i) s)) ≡ badOf (rowsOf (i + 1 + 1) (linesOf (n - (i + 1)) (after lf s)))
   unfolding rowsOf
   good-line e q =
@@ -45,7 +45,7 @@ module _ (s : List ℕ) (i n : ℕ) (h : i < n) where
 
   pub written-line : (room : List ℕ)
       → written room i (linesOf (n - i) s)
-      ≡ written (sets room (i * 22) (textWords (entryOf (before lf s)))) (i + 1) (linesOf (n - (i + 1)) (after lf s))
+      ≡ written (sets room (i * rowWords) (textWords (entryOf (before lf s)))) (i + 1) (linesOf (n - (i + 1)) (after lf s))
   unfolding written
   written-line room = rw one-line
 
@@ -75,20 +75,20 @@ read i (l ∷ ls) = by (rowOf l) refl (read (i + 1) ls)
 
 -- Lines that are rows are written as the rows' words.
 pub written-rows : (room : List ℕ) (i k : ℕ) (ls : List (List ℕ)) (rs : List PolicyRow) → rowsOf k ls ≡ rows rs
-    → written room i ls ≡ sets room (i * 22) (wordsOf rs)
-unfolding written wordsOf rowsOf
+    → written room i ls ≡ sets room (i * rowWords) (wordsOf rs)
+unfolding written wordsOfAll rowsOf
 written-rows room i k [] rs e = let q : rs ≡ [] = cc in rw q
 written-rows room i k (l ∷ ls) rs e =
     by (rowOf l) refl (read (k + 1) ls) (λ room′ rs′ p. written-rows room′ (i + 1) (k + 1) ls rs′ p)
   where
     by : (o : Option PolicyRow) → rowOf l ≡ o → Read (k + 1) ls
-        → ((room′ : List ℕ) (rs′ : List PolicyRow) → rowsOf (k + 1) ls ≡ rows rs′ → written room′ (i + 1) ls ≡ sets room′ ((i + 1) * 22) (wordsOf rs′))
-        → written room i (l ∷ ls) ≡ sets room (i * 22) (wordsOf rs)
+        → ((room′ : List ℕ) (rs′ : List PolicyRow) → rowsOf (k + 1) ls ≡ rows rs′ → written room′ (i + 1) ls ≡ sets room′ ((i + 1) * rowWords) (wordsOf rs′))
+        → written room i (l ∷ ls) ≡ sets room (i * rowWords) (wordsOf rs)
     by none q d rec = let f = rw q at e in let z : _≡_ {A = ℕ} 0 1 = cc in absurd (omega arith)
     by (some r) q (bad j p n) rec = let f = rw (q, p) at e in let z : _≡_ {A = ℕ} 0 1 = cc in absurd (omega arith)
     by (some r) q (good rs′ p n) rec =
         let f = rw (q, p) at e in
         let g : rs ≡ r ∷ rs′ = cc in
         let w = line-words l r q in
-        let m : (i + 1) * 22 ≡ i * 22 + length (wordsOfRow r) = omega (arith, w .1) in
-        rw (g, w .0) (rec (sets room (i * 22) (wordsOfRow r)) rs′ p ∙ rw m (sets-more room (i * 22) (wordsOfRow r) (wordsOf rs′)))
+        let m : (i + 1) * rowWords ≡ i * rowWords + length (wordsOfRow r) = omega (arith, w .1) in
+        rw (g, w .0) (rec (sets room (i * rowWords) (wordsOfRow r)) rs′ p ∙ rw m (sets-more room (i * rowWords) (wordsOfRow r) (wordsOf rs′)))

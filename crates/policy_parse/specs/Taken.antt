@@ -10,15 +10,15 @@ use lib.ListN.{length, getD, take, drop, length-append}
 use lib.Seq.{take-at}
 use borrow.Author.Tests.{le-leb}
 use Rattle.policy.specs.Policy.{PolicyRow}
-use Rattle.policy.specs.Words.{rowWords, policyRows}
+use Rattle.policy.specs.Words.{rowWords, policyRows, wordsOf}
+use Rattle.policy.specs.WrittenLaws.{FiveEach, words-length, words-rows}
 use Rattle.policy_text.specs.declared.Parsed.{Parsed}
 use Rattle.policy_text.specs.declared.Parsed.the-variants.{Rows, NotHeader, NotEnded, TooMany, BadRow, NoRoom}
 use Rattle.policy_text.specs.Bytes.{lf, count, sameBytes}
 use Rattle.policy_text.specs.Format.{header, rowOf, linesOf, Policy, refused, rows, ontoRow, rowsOf, parsePolicy}
-use Rattle.policy_text.specs.RowWords.{wordsOf}
 use Rattle.policy_parse.specs.Parsing.{parsedIn, parsedRoom}
 use Rattle.policy_round_trip.specs.Accepted.{parse-printable}
-use Rattle.policy_round_trip.specs.Words.{AllFive, all-five, words-length, words-rows}
+use Rattle.policy_round_trip.specs.Words.{all-five}
 
 -- The answers that refuse a file.
 unfoldable pub Refusal : Parsed → Type 0
@@ -101,7 +101,7 @@ module _ (limit : ℕ) (s room : List ℕ) (enough : limit * rowWords ≤ length
       let a = parse-printable limit s rs p in
       let h : length rs * rowWords ≤ length room = omega (arith, a .1) in
       let fit = le-leb (length rs * rowWords) (length room) h in
-      let f : AllFive rs = all-five rs (a .0) in
+      let f : FiveEach rs = all-five rs (a .0) in
       let k : n ≡ length rs = same-rows n (length rs) (e ∙ rw fit) in
       let w : length (wordsOf rs) ≡ n * rowWords = words-length rs f ∙ rw k in
       rw fit record {

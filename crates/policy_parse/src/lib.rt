@@ -1,14 +1,15 @@
 // The parser of policy files (document 01, 'The policy file').
 ghost use mathlib.Core.Path.{_≡_};
-ghost use mathlib.Core.List.{_++_};
-ghost use Prim.Native.Nat.{_+_, _-_, _*_, _≤_};
+ghost use Prim.Native.Nat.{_-_, _*_, _≤_};
 ghost use lib.ListN.{length, getD, take, drop};
 ghost use lib.Seq.{sets};
 ghost use Rattle.policy_text.specs.Bytes.{lf, before, after};
 ghost use Rattle.policy_text.specs.Format.{linesOf, rowsOf, parsePolicy};
-ghost use Rattle.policy_fields.specs.Answers.{valueWords, entryWords, textWords};
+ghost use Rattle.policy.specs.Words.{rowWords};
+ghost use Rattle.policy_fields.specs.Answers.{textWords};
 ghost use Rattle.policy_parse.specs.Parsing.{badOf, written, parsedIn, parsedRoom};
-use policy_fields::Entry;
+use policy::ROW_WORDS;
+use policy::put_row;
 use policy_fields::RowText;
 use policy_fields::row;
 use policy_text::Parsed;
@@ -16,7 +17,6 @@ use policy_text::before;
 use policy_text::count;
 use policy_text::find;
 use policy_text::same;
-use selectors::Value;
 
 // The line from a place on, and where the next one begins; at the end where there is no LF.
 fn line_at(s: &[u8], at: usize) -> &[u8]
@@ -54,60 +54,25 @@ fn first_bad(body: &[u8], count: usize) -> usize
     0
 }
 
-fn put_value(rows: &mut [u64], at: usize, v: Value)
-    requires { ⌜ at + 2 ≤ length (now rows) ⌝ }
-    ensures { λ _. ⌜ now (rows .exit) ≡ sets (now (rows .entry)) at (valueWords v) ⌝ }
-{
-    rows[at] = v.upper;
-    rows[at + 1] = v.lower;
-}
-
-fn put_range(rows: &mut [u64], at: usize, low: Value, high: Value)
-    requires { ⌜ at + 4 ≤ length (now rows) ⌝ }
-    ensures { λ _. ⌜ now (rows .exit) ≡ sets (now (rows .entry)) at (valueWords low ++ valueWords high) ⌝ }
-{
-    put_value(rows, at, low);
-    put_value(rows, at + 2, high);
-}
-
-fn put_entry(rows: &mut [u64], at: usize, e: Entry)
-    requires { ⌜ at + 22 ≤ length (now rows) ⌝ }
-    ensures { λ _. ⌜ now (rows .exit) ≡ sets (now (rows .entry)) at (entryWords e) ⌝ }
-{
-    let local = e.local;
-    let remote = e.remote;
-    let protocol = e.protocol;
-    let local_port = e.local_port;
-    let remote_port = e.remote_port;
-    rows[at] = e.direction;
-    rows[at + 1] = e.action;
-    put_range(rows, at + 2, local.low, local.high);
-    put_range(rows, at + 6, remote.low, remote.high);
-    put_range(rows, at + 10, protocol.low, protocol.high);
-    put_range(rows, at + 14, local_port.low, local_port.high);
-    put_range(rows, at + 18, remote_port.low, remote_port.high);
-}
-
 // The words of a row at their place; a bad row has none.
-fn put_row(rows: &mut [u64], at: usize, text: RowText)
-    requires { ⌜ at + 22 ≤ length (now rows) ⌝ }
+fn put_text(rows: &mut [u64], at: usize, text: RowText)
     ensures { λ _. ⌜ now (rows .exit) ≡ sets (now (rows .entry)) at (textWords text) ⌝ }
 {
-    let RowText::Row(e) = text else {
+    let RowText::Row(row) = text else {
         return;
     };
-    put_entry(rows, at, e);
+    put_row(rows, at, row);
 }
 
 // The words of that many rows, from the start of the room.
 fn put_rows(body: &[u8], count: usize, rows: &mut [u64])
-    requires { ⌜ count * 22 ≤ length (now rows) ⌝ }
+    requires { ⌜ count * rowWords ≤ length (now rows) ⌝ }
     ensures { λ _. ⌜ now (rows .exit) ≡ written (now (rows .entry)) 0 (linesOf count (now (body .entry))) ⌝ }
 {
     let mut at: usize = 0;
     let mut i: usize = 0;
     while i < count {
-        put_row(rows, i * 22, row(line_at(body, at)));
+        put_text(rows, i * ROW_WORDS, row(line_at(body, at)));
         at = next_line(body, at);
         i += 1;
     }
@@ -161,7 +126,7 @@ pub fn parse(bytes: &[u8], limit: usize, rows: &mut [u64]) -> Parsed
     if bad != 0 {
         return Parsed::BadRow(bad);
     }
-    if rows.len() / 22 < n {
+    if rows.len() / ROW_WORDS < n {
         return Parsed::NoRoom;
     }
     put_rows(body, n, rows);

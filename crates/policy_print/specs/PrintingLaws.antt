@@ -19,7 +19,7 @@ use Rattle.selectors.specs.declared.Direction.{Direction}
 use Rattle.selectors.specs.declared.Direction.the-variants.{Out, In}
 use Rattle.policy.specs.declared.RowDirection.the-variants.{Only}
 use Rattle.policy.specs.Policy.{PolicyRow}
-use Rattle.policy.specs.Words.{actionOf, rowAt, rowsFrom}
+use Rattle.policy.specs.Words.{rowWords, actionOf, rowAt, rowsFrom}
 use Rattle.policy_text.specs.Bytes.{dash}
 use Rattle.policy_text.specs.BytesLaws.{left-more, left-none}
 use Rattle.policy_text.specs.Format.{any, opaqueWord}
@@ -121,7 +121,7 @@ put-rest {r} {r′} {a} {n} {xs} ys p = rw (p .bytes, p .place) (sym (sets-more 
 module _ (d : Direction) (ws : List ℕ) (i count : ℕ) where
   pub rows-more : i < count
       → rowsText (map (toward d) (rowsFrom ws i (count - i)))
-      ≡ lineText (toward d (rowAt ws (i * 22))) ++ rowsText (map (toward d) (rowsFrom ws (i + 1) (count - (i + 1))))
+      ≡ lineText (toward d (rowAt ws (i * rowWords))) ++ rowsText (map (toward d) (rowsFrom ws (i + 1) (count - (i + 1))))
   unfolding rowsText rowsFrom
   rows-more h = let e : count - i ≡ suc (count - (i + 1)) = omega arith in rw (e, add-one i)
 
@@ -149,7 +149,7 @@ pub rows-most : (d : Direction) (ws : List ℕ) (i n : ℕ) → length (rowsText
 unfolding rowsText rowsFrom
 rows-most d ws i zero = omega arith
 rows-most d ws i (suc n) =
-    rw length-append (omega (arith, line-most d ws (i * 22), rows-most d ws (suc i) n))
+    rw length-append (omega (arith, line-most d ws (i * rowWords), rows-most d ws (suc i) n))
 
 -- A row's line, by its parts.
 pub line-length : (r : PolicyRow)

@@ -6,12 +6,13 @@ ghost use lib.ListN.{length};
 ghost use Rattle.selectors.specs.Value.{number};
 ghost use Rattle.selectors.specs.Ranges.{addressRange, protocolRange, portRange};
 ghost use Rattle.selectors.specs.Range.{addressSize, protocolSize, portSize};
-ghost use Rattle.selectors.specs.Words.{valueAt, rangeAt, rangesAt};
-ghost use Rattle.policy.specs.Words.{actionOf, rowAt, policyRows};
+ghost use Rattle.selectors.specs.Words.{rangeWords, rangesWords, rangeAt, rangesAt};
+ghost use Rattle.policy.specs.Words.{actionOf, rowWords, rowAt, policyRows};
 ghost use Rattle.policy_text.specs.Bytes.{tab};
 ghost use Rattle.policy_text.specs.Print.{digitsOf, decimalText, dotted, addressText, protocolText, portText, rangeText, rangesText, directionText, actionText, lineText, rowsText, toward};
 ghost use Rattle.policy_print.specs.Printing.{Put, printed, printedIn, printedRoom};
 use policy::Action;
+use policy::ROW_WORDS;
 use policy::RowDirection;
 use policy::action_of;
 use selectors::ABSENT;
@@ -20,6 +21,7 @@ use selectors::Direction;
 use selectors::PortRange;
 use selectors::ProtocolRange;
 use selectors::Value;
+use selectors::words::value_at;
 
 pub enum Printed {
     // The count of bytes written.
@@ -156,18 +158,8 @@ fn put_port_range(out: &mut [u8], at: usize, range: PortRange) -> usize
     put_port(out, after, high)
 }
 
-fn value_at(rows: &[u64], at: usize) -> Value
-    requires { ⌜ at + 2 ≤ length (now rows) ⌝ }
-    ensures { λ r. ⌜ r ≡ valueAt (now (rows .entry)) at ⌝ }
-{
-    Value {
-        upper: rows[at],
-        lower: rows[at + 1],
-    }
-}
-
 fn put_address_field(out: &mut [u8], at: usize, rows: &[u64], from: usize) -> usize
-    requires { ⌜ (from + 4 ≤ length (now rows)) × (at + length (tab ∷ rangeText addressSize addressText (rangeAt (now rows) from)) < 2 ^ 64) ⌝ }
+    requires { ⌜ (from + rangeWords ≤ length (now rows)) × (at + length (tab ∷ rangeText addressSize addressText (rangeAt (now rows) from)) < 2 ^ 64) ⌝ }
     ensures { λ r. ⌜ Put (now (out .entry)) at (tab ∷ rangeText addressSize addressText (rangeAt (now (rows .entry)) from)) (now (out .exit)) r ⌝ }
 {
     let low = value_at(rows, from);
@@ -177,7 +169,7 @@ fn put_address_field(out: &mut [u8], at: usize, rows: &[u64], from: usize) -> us
 }
 
 fn put_protocol_field(out: &mut [u8], at: usize, rows: &[u64], from: usize) -> usize
-    requires { ⌜ (from + 4 ≤ length (now rows)) × (at + length (tab ∷ rangeText protocolSize protocolText (rangeAt (now rows) from)) < 2 ^ 64) ⌝ }
+    requires { ⌜ (from + rangeWords ≤ length (now rows)) × (at + length (tab ∷ rangeText protocolSize protocolText (rangeAt (now rows) from)) < 2 ^ 64) ⌝ }
     ensures { λ r. ⌜ Put (now (out .entry)) at (tab ∷ rangeText protocolSize protocolText (rangeAt (now (rows .entry)) from)) (now (out .exit)) r ⌝ }
 {
     let low = value_at(rows, from);
@@ -187,7 +179,7 @@ fn put_protocol_field(out: &mut [u8], at: usize, rows: &[u64], from: usize) -> u
 }
 
 fn put_port_field(out: &mut [u8], at: usize, rows: &[u64], from: usize) -> usize
-    requires { ⌜ (from + 4 ≤ length (now rows)) × (at + length (tab ∷ rangeText portSize portText (rangeAt (now rows) from)) < 2 ^ 64) ⌝ }
+    requires { ⌜ (from + rangeWords ≤ length (now rows)) × (at + length (tab ∷ rangeText portSize portText (rangeAt (now rows) from)) < 2 ^ 64) ⌝ }
     ensures { λ r. ⌜ Put (now (out .entry)) at (tab ∷ rangeText portSize portText (rangeAt (now (rows .entry)) from)) (now (out .exit)) r ⌝ }
 {
     let low = value_at(rows, from);
@@ -198,7 +190,7 @@ fn put_port_field(out: &mut [u8], at: usize, rows: &[u64], from: usize) -> usize
 
 // The five ranges from a word on, each after a tab.
 fn put_fields(out: &mut [u8], at: usize, rows: &[u64], from: usize) -> usize
-    requires { ⌜ (from + 20 ≤ length (now rows)) × (at + length (rangesText (rangesAt (now rows) from)) < 2 ^ 64) ⌝ }
+    requires { ⌜ (from + rangesWords ≤ length (now rows)) × (at + length (rangesText (rangesAt (now rows) from)) < 2 ^ 64) ⌝ }
     ensures { λ r. ⌜ Put (now (out .entry)) at (rangesText (rangesAt (now (rows .entry)) from)) (now (out .exit)) r ⌝ }
 {
     let a = put_address_field(out, at, rows, from);
@@ -235,7 +227,7 @@ fn put_action(out: &mut [u8], at: usize, word: u64) -> usize
 
 // The row at a word, printed as a row of that direction, with its LF.
 fn put_row(out: &mut [u8], at: usize, rows: &[u64], from: usize, direction: Direction) -> usize
-    requires { ⌜ (from + 22 ≤ length (now rows)) × (at + length (lineText (toward direction (rowAt (now rows) from))) < 2 ^ 64) ⌝ }
+    requires { ⌜ (from + rowWords ≤ length (now rows)) × (at + length (lineText (toward direction (rowAt (now rows) from))) < 2 ^ 64) ⌝ }
     ensures { λ r. ⌜ Put (now (out .entry)) at (lineText (toward direction (rowAt (now (rows .entry)) from))) (now (out .exit)) r ⌝ }
 {
     let a = put_direction(out, at, direction);
@@ -249,11 +241,11 @@ fn put_rows(out: &mut [u8], at: usize, rows: &[u64], direction: Direction) -> us
     requires { ⌜ at + length (rowsText (map (toward direction) (policyRows (now rows)))) < 2 ^ 64 ⌝ }
     ensures { λ r. ⌜ Put (now (out .entry)) at (rowsText (map (toward direction) (policyRows (now (rows .entry))))) (now (out .exit)) r ⌝ }
 {
-    let count = rows.len() / 22;
+    let count = rows.len() / ROW_WORDS;
     let mut next = at;
     let mut i: usize = 0;
     while i < count {
-        next = put_row(out, next, rows, i * 22, direction);
+        next = put_row(out, next, rows, i * ROW_WORDS, direction);
         i += 1;
     }
     next

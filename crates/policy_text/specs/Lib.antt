@@ -3,6 +3,5 @@ pub mod BytesLaws
 pub mod Format
 pub mod FormatLaws
 pub mod Print
-pub mod RowWords
 pub mod PrintLaws
 pub mod Examples

@@ -11,9 +11,8 @@ use Rattle.selectors.specs.declared.Value.{Value}
 use Rattle.policy.specs.declared.Action.{Action}
 use Rattle.policy.specs.declared.Action.the-variants.{Discard}
 use Rattle.policy.specs.Policy.{matches, orderedSearch}
-use Rattle.policy.specs.Words.{actionOf}
-use Rattle.row_records.specs.declared.Row.{Row}
-use Rattle.row_records.specs.Records.{rowOf}
+use Rattle.policy.specs.declared.Row.{Row}
+use Rattle.policy.specs.Words.{actionOf, rowOf}
 
 -- What stands at an index beyond the last record.
 abbrev zero : Value

@@ -1,29 +1,15 @@
-// Policy rows as records, and the ordered search over a lent list of them.
+// The ordered search over a lent list of row records.
 // A slice of structs is not covered by the borrow checker: `search` is proved by hand, and all that it calls is covered.
 ghost use mathlib.Core.Path.{_≡_};
 ghost use mathlib.Core.List.{map};
 ghost use Rattle.selectors.specs.Value.{combination};
 ghost use Rattle.selectors.specs.Range.{holds};
 ghost use Rattle.policy.specs.Policy.{matches, orderedSearch};
-ghost use Rattle.row_records.specs.Records.{rangesOf, rowOf};
+ghost use Rattle.policy.specs.Words.{rangesOf, rowOf};
 use policy::Action;
-use selectors::AddressRange;
+use policy::Row;
 use selectors::Direction;
-use selectors::PortRange;
-use selectors::ProtocolRange;
 use selectors::Selectors;
-
-// A row of a policy: 22 words, each with the meaning that it has in a flat list of words.
-#[repr(C)]
-pub struct Row {
-    pub direction: u64,
-    pub action: u64,
-    pub local: AddressRange,
-    pub remote: AddressRange,
-    pub protocol: ProtocolRange,
-    pub local_port: PortRange,
-    pub remote_port: PortRange,
-}
 
 // Whether the five ranges of a row all hold the values.
 fn ranges_hold(row: Row, selectors: Selectors) -> bool

@@ -1,5 +1,5 @@
 -- What stands after a sequence of calls, read off the calls alone, in the paper's terms: the current policy, the live pairs, and the slots
--- of each direction's cache. Assumes nothing: these are definitions.
+-- of each direction's cache. Assumes nothing: these are definitions. `limit` is the most rows of a policy and of a normal form (21 and 22).
 use Prim.Native.Nat.{ℕ, _+_, _%_}
 use mathlib.Core.Bool.{cond}
 use mathlib.Core.List.{List, [], _∷_, map}
@@ -10,7 +10,6 @@ use Rattle.packet.specs.Read.{readPacket}
 use Rattle.packet.specs.ReadLaws.{Bytes}
 use Rattle.packet.specs.declared.Reading.{Reading}
 use Rattle.packet.specs.declared.Reading.the-variants.{Readable, Unreadable}
-use Rattle.policy.specs.Words.{rowLimit}
 use Rattle.policy.specs.Policy.{PolicyRow, matches, orderedSearch}
 use Rattle.policy_text.specs.Format.{Policy, refused, rows, parsePolicy}
 use Rattle.layout.specs.NormalRows.{bothWays}
@@ -26,30 +25,30 @@ use Rattle.verdicts.specs.Calls.{shows, forGateway, outboundBy, inboundBy, from
 use Rattle.sequences.specs.Sequence.{Call, policy, add, remove, outbound, inbound, fromSa, Answer, forPolicy, forPair, forPacket}
 
 -- The rows of a file that is accepted: one that 23, 24, 21, 20 and 22 let through.
-abbrev pub acceptedRows : Policy → Option (List PolicyRow)
-acceptedRows (refused p) = none
-acceptedRows (rows rs) = ifAccepted (accepting rowLimit (rows rs)) (some rs) none
+abbrev pub acceptedRows : ℕ → Policy → Option (List PolicyRow)
+acceptedRows limit (refused p) = none
+acceptedRows limit (rows rs) = ifAccepted (accepting limit (rows rs)) (some rs) none
 
-abbrev pub accepts : Call → Option (List PolicyRow)
-accepts (policy s) = acceptedRows (parsePolicy rowLimit s)
-accepts (add p) = none
-accepts (remove protocol spi) = none
-accepts (outbound p) = none
-accepts (inbound p) = none
-accepts (fromSa protocol spi p) = none
+abbrev pub accepts : ℕ → Call → Option (List PolicyRow)
+accepts limit (policy s) = acceptedRows limit (parsePolicy limit s)
+accepts limit (add p) = none
+accepts limit (remove protocol spi) = none
+accepts limit (outbound p) = none
+accepts limit (inbound p) = none
+accepts limit (fromSa protocol spi p) = none
 
 -- The current policy: the rows of the last accepted file.
 abbrev pub instead : {A : Type 0} → A → Option A → A
 instead a none = a
 instead a (some b) = b
 
-unfoldable pub currentFrom : List PolicyRow → List Call → List PolicyRow
-currentFrom rs [] = rs
-currentFrom rs (c ∷ cs) = currentFrom (instead rs (accepts c)) cs
+unfoldable pub currentFrom : ℕ → List PolicyRow → List Call → List PolicyRow
+currentFrom limit rs [] = rs
+currentFrom limit rs (c ∷ cs) = currentFrom limit (instead rs (accepts limit c)) cs
 
 -- 'The policy without rows' at first.
-abbrev pub current : List Call → List PolicyRow
-current cs = currentFrom [] cs
+abbrev pub current : ℕ → List Call → List PolicyRow
+current limit cs = currentFrom limit [] cs
 
 -- The live pairs: each that was added, and was not removed since. A refusal changes nothing.
 abbrev pub addedTo : List Pair → NewPair → Outcome → List Pair
@@ -138,22 +137,22 @@ slotsOr s none = s
 slotsOr s (some rs) = noSlots
 
 -- The slots after a sequence of calls on a gateway with this address, from a policy and slots on.
-unfoldable pub slotsFrom : Direction → ℕ → List PolicyRow → Slots → List Call → Slots
-slotsFrom d address rs s [] = s
-slotsFrom d address rs s (c ∷ cs) =
-    slotsFrom d address (instead rs (accepts c)) (slotsOr (slotsSearched d rs s (searched d address c)) (accepts c)) cs
+unfoldable pub slotsFrom : ℕ → Direction → ℕ → List PolicyRow → Slots → List Call → Slots
+slotsFrom limit d address rs s [] = s
+slotsFrom limit d address rs s (c ∷ cs) =
+    slotsFrom limit d address (instead rs (accepts limit c)) (slotsOr (slotsSearched d rs s (searched d address c)) (accepts limit c)) cs
 
-abbrev pub slots : Direction → ℕ → List Call → Slots
-slots d address cs = slotsFrom d address [] noSlots cs
+abbrev pub slots : ℕ → Direction → ℕ → List Call → Slots
+slots limit d address cs = slotsFrom limit d address [] noSlots cs
 
 -- The answer to a call by document 01's rules, from the gateway's address, the current policy and the live pairs.
-abbrev pub ruled : ℕ → List PolicyRow → List Pair → Call → Answer
-ruled address rs qs (policy s) = forPolicy (accepting rowLimit (parsePolicy rowLimit s))
-ruled address rs qs (add p) = forPair (addOutcome qs p)
-ruled address rs qs (remove protocol spi) = forPair (removeOutcome qs protocol spi)
-ruled address rs qs (outbound p) = forPacket (outboundBy (orderedSearch Out rs) qs p)
-ruled address rs qs (inbound p) = forPacket (inboundBy (orderedSearch In rs) address qs p)
-ruled address rs qs (fromSa protocol spi p) = forPacket (fromSaBy protocol spi qs p)
+abbrev pub ruled : ℕ → ℕ → List PolicyRow → List Pair → Call → Answer
+ruled limit address rs qs (policy s) = forPolicy (accepting limit (parsePolicy limit s))
+ruled limit address rs qs (add p) = forPair (addOutcome qs p)
+ruled limit address rs qs (remove protocol spi) = forPair (removeOutcome qs protocol spi)
+ruled limit address rs qs (outbound p) = forPacket (outboundBy (orderedSearch Out rs) qs p)
+ruled limit address rs qs (inbound p) = forPacket (inboundBy (orderedSearch In rs) address qs p)
+ruled limit address rs qs (fromSa protocol spi p) = forPacket (fromSaBy protocol spi qs p)
 
 -- A packet that is searched is made of bytes, as every lent packet is.
 abbrev pub OfBytes : Call → Type 0

@@ -13,7 +13,7 @@ use Rattle.packet.specs.Read.{readPacket}
 use Rattle.packet.specs.declared.Reading.{Reading}
 use Rattle.packet.specs.declared.Reading.the-variants.{Readable, Unreadable}
 use Rattle.policy.specs.Policy.{PolicyRow}
-use Rattle.policy.specs.Words.{policyRows, rowLimit}
+use Rattle.policy.specs.Words.{policyRows}
 use Rattle.policy_text.specs.Format.{Policy, refused, rows, parsePolicy}
 use Rattle.policy_text.specs.declared.Parsed.{Parsed}
 use Rattle.policy_text.specs.declared.Parsed.the-variants.{Rows, NotHeader as NoHeader, NotEnded as NoEnd, TooMany as OverRows, BadRow as Bad, NoRoom}
@@ -28,7 +28,7 @@ use Rattle.spd.specs.declared.Acceptance.the-variants.{Accepted, NotHeader, Not
 use Rattle.spd.specs.declared.Caches.{Caches}
 use Rattle.spd.specs.Spd.{spdWords, spdAfter, emptyCaches, cachesAfter, accepting, ifAccepted}
 use Rattle.spd_words.specs.Words.{addressOf, rowsOf}
-use Rattle.spd.specs.SpdLaws.{Within, empty-within, accepted-exactly, spd-rows}
+use Rattle.spd.specs.SpdLaws.{Within, empty-within, within-more, accepted-exactly, spd-rows}
 use Rattle.sad.specs.Pairs.{placeCount, placeWords}
 use Rattle.sad.specs.TableLaws.{size-after-add, size-after-remove}
 use Rattle.verdicts.specs.Calls.{shows, forGateway}
@@ -46,9 +46,9 @@ cacheSearched d ws c none = c
 cacheSearched d ws c (some vs) = lookedUp c ws d vs .cache
 
 -- The words and the caches after a policy file, by the rows that are accepted.
-abbrev spdOr : List ℕ → Option (List PolicyRow) → List ℕ
-spdOr ws none = ws
-spdOr ws (some rs) = spdWords (addressOf ws) rs
+abbrev spdOr : ℕ → List ℕ → Option (List PolicyRow) → List ℕ
+spdOr capacity ws none = ws
+spdOr capacity ws (some rs) = spdWords capacity (addressOf ws) rs
 
 abbrev cachesOr : Caches → Option (List PolicyRow) → Caches
 cachesOr c none = c
@@ -64,31 +64,32 @@ if-accepted new old take rs p q TooMany = sym q
 if-accepted new old take rs p q (BadRow i) = sym q
 if-accepted new old take rs p q (TooLarge d) = sym q
 
-spd-settled : (ws : List ℕ) (f : Policy) → spdAfter rowLimit ws f ≡ spdOr ws (acceptedRows f)
-spd-settled ws (refused p) = refl
-spd-settled ws (rows rs) = if-accepted (spdWords (addressOf ws) rs) ws (spdOr ws) rs refl refl (accepting rowLimit (rows rs))
+spd-settled : (capacity limit : ℕ) (ws : List ℕ) (f : Policy) → spdAfter capacity limit ws f ≡ spdOr capacity ws (acceptedRows limit f)
+spd-settled capacity limit ws (refused p) = refl
+spd-settled capacity limit ws (rows rs) =
+    if-accepted (spdWords capacity (addressOf ws) rs) ws (spdOr capacity ws) rs refl refl (accepting limit (rows rs))
 
-caches-settled : (c : Caches) (f : Policy) → cachesAfter rowLimit c f ≡ cachesOr c (acceptedRows f)
-caches-settled c (refused p) = kept p
+caches-settled : (limit : ℕ) (c : Caches) (f : Policy) → cachesAfter limit c f ≡ cachesOr c (acceptedRows limit f)
+caches-settled limit c (refused p) = kept p
   where
-    kept : (p : Parsed) → cachesAfter rowLimit c (refused p) ≡ c
+    kept : (p : Parsed) → cachesAfter limit c (refused p) ≡ c
     kept (Rows n) = refl
     kept NoHeader = refl
     kept NoEnd = refl
     kept OverRows = refl
     kept (Bad i) = refl
     kept NoRoom = refl
-caches-settled c (rows rs) = if-accepted emptyCaches c (cachesOr c) rs refl refl (accepting rowLimit (rows rs))
+caches-settled limit c (rows rs) = if-accepted emptyCaches c (cachesOr c) rs refl refl (accepting limit (rows rs))
 
 none≢some : (rs : List PolicyRow) → _≡_ {A = Option (List PolicyRow)} none (some rs) → ⊥
 none≢some rs e = let z : _≡_ {A = ℕ} 0 1 = cc in omega arith
 
-accepted-within : (f : Policy) (rs : List PolicyRow) → acceptedRows f ≡ some rs → Within rs
-accepted-within (refused p) rs e = absurd (none≢some rs e)
-accepted-within (rows qs) rs e = by (accepting rowLimit (rows qs)) refl e
+accepted-within : (limit : ℕ) (f : Policy) (rs : List PolicyRow) → acceptedRows limit f ≡ some rs → Within limit rs
+accepted-within limit (refused p) rs e = absurd (none≢some rs e)
+accepted-within limit (rows qs) rs e = by (accepting limit (rows qs)) refl e
   where
-    by : (a : Acceptance) → accepting rowLimit (rows qs) ≡ a → ifAccepted a (some qs) none ≡ some rs → Within rs
-    by Accepted g h = let same : qs ≡ rs = cc in subst Within same (accepted-exactly qs .0 g)
+    by : (a : Acceptance) → accepting limit (rows qs) ≡ a → ifAccepted a (some qs) none ≡ some rs → Within limit rs
+    by Accepted g h = let same : qs ≡ rs = cc in subst (Within limit) same (accepted-exactly limit qs .0 g)
     by NotHeader g h = absurd (none≢some rs h)
     by NotEnded g h = absurd (none≢some rs h)
     by TooMany g h = absurd (none≢some rs h)
@@ -114,17 +115,17 @@ module _ (d : Direction) (rs : List PolicyRow) (ws : List ℕ) (is : policyRows 
       }
 
 -- A gateway with this address, when these rows are the current policy.
-pub record Sound (address : ℕ) (rs : List PolicyRow) (g : Gateway) : Type 0 where
-  pub policy-words : g .spd ≡ spdWords address rs
-  pub within : Within rs
+pub record Sound (capacity limit address : ℕ) (rs : List PolicyRow) (g : Gateway) : Type 0 where
+  pub policy-words : g .spd ≡ spdWords capacity address rs
+  pub within : Within limit rs
   pub pair-words : length (g .sad) ≡ placeCount * placeWords
   pub holding : (d : Direction) → Holding d rs (cacheOf d (g .caches))
 
-pub fresh-sound : (address : ℕ) → Sound address [] (fresh address)
-fresh-sound address =
+pub fresh-sound : (capacity limit address : ℕ) → Sound capacity limit address [] (fresh capacity address)
+fresh-sound capacity limit address =
     record {
       policy-words = refl;
-      within = empty-within;
+      within = empty-within limit;
       pair-words = length-replicate {A = ℕ} (placeCount * placeWords) 0;
       holding = empty-each;
     }
@@ -165,80 +166,84 @@ caches-each Out c (some rs) = refl
 caches-each In c none = refl
 caches-each In c (some rs) = refl
 
-pub spd-after : (g : Gateway) (c : Call) → after g c .spd ≡ spdOr (g .spd) (accepts c)
-unfolding after
-spd-after g (policy s) = spd-settled (g .spd) (parsePolicy rowLimit s)
-spd-after g (add p) = refl
-spd-after g (remove protocol spi) = refl
-spd-after g (outbound p) = refl
-spd-after g (inbound p) = refl
-spd-after g (fromSa protocol spi p) = refl
+module _ (capacity limit : ℕ) where
+  pub spd-after : (g : Gateway) (c : Call) → after capacity limit g c .spd ≡ spdOr capacity (g .spd) (accepts limit c)
+  unfolding after
+  spd-after g (policy s) = spd-settled capacity limit (g .spd) (parsePolicy limit s)
+  spd-after g (add p) = refl
+  spd-after g (remove protocol spi) = refl
+  spd-after g (outbound p) = refl
+  spd-after g (inbound p) = refl
+  spd-after g (fromSa protocol spi p) = refl
 
-pub cache-after : (d : Direction) (g : Gateway) (c : Call)
-    → cacheOf d (after g c .caches) ≡ cacheOr (cacheSearched d (rowsOf (g .spd) d) (cacheOf d (g .caches)) (searched d (addressOf (g .spd)) c)) (accepts c)
-unfolding after
-cache-after Out g (policy s) = ap (cacheOf Out) (caches-settled (g .caches) (parsePolicy rowLimit s)) ∙ caches-each Out (g .caches) (acceptedRows (parsePolicy rowLimit s))
-cache-after In g (policy s) = ap (cacheOf In) (caches-settled (g .caches) (parsePolicy rowLimit s)) ∙ caches-each In (g .caches) (acceptedRows (parsePolicy rowLimit s))
-cache-after Out g (outbound p) = out-cache (g .caches .outbound) (rowsOf (g .spd) Out) (addressOf (g .spd)) _ p
-cache-after In g (inbound p) = in-cache (g .caches .inbound) (rowsOf (g .spd) In) (addressOf (g .spd)) _ p
-cache-after Out g (add p) = refl
-cache-after Out g (remove protocol spi) = refl
-cache-after Out g (inbound p) = refl
-cache-after Out g (fromSa protocol spi p) = refl
-cache-after In g (add p) = refl
-cache-after In g (remove protocol spi) = refl
-cache-after In g (outbound p) = refl
-cache-after In g (fromSa protocol spi p) = refl
+  pub cache-after : (d : Direction) (g : Gateway) (c : Call)
+      → cacheOf d (after capacity limit g c .caches) ≡ cacheOr (cacheSearched d (rowsOf capacity (g .spd) d) (cacheOf d (g .caches)) (searched d (addressOf (g .spd)) c)) (accepts limit c)
+  unfolding after
+  cache-after Out g (policy s) = ap (cacheOf Out) (caches-settled limit (g .caches) (parsePolicy limit s)) ∙ caches-each Out (g .caches) (acceptedRows limit (parsePolicy limit s))
+  cache-after In g (policy s) = ap (cacheOf In) (caches-settled limit (g .caches) (parsePolicy limit s)) ∙ caches-each In (g .caches) (acceptedRows limit (parsePolicy limit s))
+  cache-after Out g (outbound p) = out-cache (g .caches .outbound) (rowsOf capacity (g .spd) Out) (addressOf (g .spd)) _ p
+  cache-after In g (inbound p) = in-cache (g .caches .inbound) (rowsOf capacity (g .spd) In) (addressOf (g .spd)) _ p
+  cache-after Out g (add p) = refl
+  cache-after Out g (remove protocol spi) = refl
+  cache-after Out g (inbound p) = refl
+  cache-after Out g (fromSa protocol spi p) = refl
+  cache-after In g (add p) = refl
+  cache-after In g (remove protocol spi) = refl
+  cache-after In g (outbound p) = refl
+  cache-after In g (fromSa protocol spi p) = refl
 
-pub pair-words-after : (g : Gateway) (c : Call) → length (g .sad) ≡ placeCount * placeWords → length (after g c .sad) ≡ placeCount * placeWords
-unfolding after
-pair-words-after g (policy s) h = h
-pair-words-after g (add p) h = size-after-add (g .sad) p h
-pair-words-after g (remove protocol spi) h = size-after-remove (g .sad) protocol spi h
-pair-words-after g (outbound p) h = h
-pair-words-after g (inbound p) h = h
-pair-words-after g (fromSa protocol spi p) h = h
+  pub pair-words-after : (g : Gateway) (c : Call) → length (g .sad) ≡ placeCount * placeWords → length (after capacity limit g c .sad) ≡ placeCount * placeWords
+  unfolding after
+  pair-words-after g (policy s) h = h
+  pair-words-after g (add p) h = size-after-add (g .sad) p h
+  pair-words-after g (remove protocol spi) h = size-after-remove (g .sad) protocol spi h
+  pair-words-after g (outbound p) h = h
+  pair-words-after g (inbound p) h = h
+  pair-words-after g (fromSa protocol spi p) h = h
 
-accepts-within : (c : Call) (rs : List PolicyRow) → accepts c ≡ some rs → Within rs
-accepts-within (policy s) rs e = accepted-within (parsePolicy rowLimit s) rs e
-accepts-within (add p) rs e = absurd (none≢some rs e)
-accepts-within (remove protocol spi) rs e = absurd (none≢some rs e)
-accepts-within (outbound p) rs e = absurd (none≢some rs e)
-accepts-within (inbound p) rs e = absurd (none≢some rs e)
-accepts-within (fromSa protocol spi p) rs e = absurd (none≢some rs e)
+accepts-within : (limit : ℕ) (c : Call) (rs : List PolicyRow) → accepts limit c ≡ some rs → Within limit rs
+accepts-within limit (policy s) rs e = accepted-within limit (parsePolicy limit s) rs e
+accepts-within limit (add p) rs e = absurd (none≢some rs e)
+accepts-within limit (remove protocol spi) rs e = absurd (none≢some rs e)
+accepts-within limit (outbound p) rs e = absurd (none≢some rs e)
+accepts-within limit (inbound p) rs e = absurd (none≢some rs e)
+accepts-within limit (fromSa protocol spi p) rs e = absurd (none≢some rs e)
 
-module _ (address : ℕ) (rs : List PolicyRow) (g : Gateway) (s : Sound address rs g) where
-  -- The words that a packet call searches are the rows of the current policy's normal form.
-  pub rows-read : (d : Direction) → policyRows (rowsOf (g .spd) d) ≡ map bothWays (form d rs)
-  rows-read d = rw (s .policy-words, spd-rows address rs (s .within) d) (form-words-rows d rs)
+pub address-kept : (capacity limit address : ℕ) (rs : List PolicyRow) (g : Gateway) → Sound capacity limit address rs g → addressOf (g .spd) ≡ address
+address-kept capacity limit address rs g s = rw (s .policy-words)
 
-  pub address-kept : addressOf (g .spd) ≡ address
-  address-kept = rw (s .policy-words)
+-- The words carry every policy that is accepted.
+module _ (capacity limit : ℕ) (bound : limit ≤ capacity) where
+  module _ (address : ℕ) (rs : List PolicyRow) (g : Gateway) (s : Sound capacity limit address rs g) where
+    -- The words that a packet call searches are the rows of the current policy's normal form.
+    pub rows-read : (d : Direction) → policyRows (rowsOf capacity (g .spd) d) ≡ map bothWays (form d rs)
+    rows-read d = rw (s .policy-words, spd-rows capacity address rs (within-more limit capacity bound rs (s .within)) d) (form-words-rows d rs)
 
-  pub after-sound : (c : Call) → Sound address (instead rs (accepts c)) (after g c)
-  after-sound c = by (accepts c) refl
-    where
-      by : (o : Option (List PolicyRow)) → accepts c ≡ o → Sound address (instead rs o) (after g c)
-      by none e =
-          record {
-            policy-words = spd-after g c ∙ rw e (s .policy-words);
-            within = s .within;
-            pair-words = pair-words-after g c (s .pair-words);
-            holding = λ d. rw (cache-after d g c, e) (search-holding d rs (rowsOf (g .spd) d) (rows-read d) (cacheOf d (g .caches)) (s .holding d) (searched d (addressOf (g .spd)) c));
-          }
-      by (some qs) e =
-          record {
-            policy-words = spd-after g c ∙ rw e (ap (λ (a : ℕ). spdWords a qs) address-kept);
-            within = accepts-within c qs e;
-            pair-words = pair-words-after g c (s .pair-words);
-            holding = λ d. rw (cache-after d g c, e) (empty-holding d qs);
-          }
+    pub after-sound : (c : Call) → Sound capacity limit address (instead rs (accepts limit c)) (after capacity limit g c)
+    after-sound c = by (accepts limit c) refl
+      where
+        by : (o : Option (List PolicyRow)) → accepts limit c ≡ o → Sound capacity limit address (instead rs o) (after capacity limit g c)
+        by none e =
+            record {
+              policy-words = spd-after capacity limit g c ∙ rw e (s .policy-words);
+              within = s .within;
+              pair-words = pair-words-after capacity limit g c (s .pair-words);
+              holding = λ d. rw (cache-after capacity limit d g c, e) (search-holding d rs (rowsOf capacity (g .spd) d) (rows-read d) (cacheOf d (g .caches)) (s .holding d) (searched d (addressOf (g .spd)) c));
+            }
+        by (some qs) e =
+            record {
+              policy-words = spd-after capacity limit g c ∙ rw e (ap (λ (a : ℕ). spdWords capacity a qs) (address-kept capacity limit address rs g s));
+              within = accepts-within limit c qs e;
+              pair-words = pair-words-after capacity limit g c (s .pair-words);
+              holding = λ d. rw (cache-after capacity limit d g c, e) (empty-holding d qs);
+            }
 
--- After any sequence.
-run-sound : (address : ℕ) (rs : List PolicyRow) (g : Gateway) → Sound address rs g → (cs : List Call) → Sound address (currentFrom rs cs) (run g cs)
-unfolding run currentFrom
-run-sound address rs g s [] = s
-run-sound address rs g s (c ∷ cs) = run-sound address (instead rs (accepts c)) (after g c) (after-sound address rs g s c) cs
+  -- After any sequence.
+  run-sound : (address : ℕ) (rs : List PolicyRow) (g : Gateway) → Sound capacity limit address rs g → (cs : List Call)
+      → Sound capacity limit address (currentFrom limit rs cs) (run capacity limit g cs)
+  unfolding run currentFrom
+  run-sound address rs g s [] = s
+  run-sound address rs g s (c ∷ cs) = run-sound address (instead rs (accepts limit c)) (after capacity limit g c) (after-sound address rs g s c) cs
 
-pub sound : (address : ℕ) (cs : List Call) → Sound address (current cs) (run (fresh address) cs)
-sound address cs = run-sound address [] (fresh address) (fresh-sound address) cs
+  pub sound : (address : ℕ) (cs : List Call) → Sound capacity limit address (current limit cs) (run capacity limit (fresh capacity address) cs)
+  sound address cs = run-sound address [] (fresh capacity address) (fresh-sound capacity limit address) cs

@@ -348,21 +348,22 @@ remove-then ws qs protocol spi size h = by (live protocol spi (pairs ws)) refl
         rw (a .3) (taken-alike protocol spi (pairsBefore ws (a .0)) (pairsAfter ws (a .0)) qs (pairAt ws (a .0)) (a .1) (rw (a .2) at h))
     by false e = rw (nothing-kept ws protocol spi size (rw e), without-none protocol spi qs (sym (live-alike (pairs ws) qs h protocol spi) ∙ e)) h
 
-pairs-then : (g : Gateway) (qs : List Pair) (c : Call) → length (g .sad) ≡ placeCount * placeWords → Alike (pairs (g .sad)) qs
-    → Alike (pairs (after g c .sad)) (pairsThen qs c)
-unfolding after
-pairs-then g qs (policy s) size h = h
-pairs-then g qs (add p) size h = add-then (g .sad) qs p size h
-pairs-then g qs (remove protocol spi) size h = remove-then (g .sad) qs protocol spi size h
-pairs-then g qs (outbound p) size h = h
-pairs-then g qs (inbound p) size h = h
-pairs-then g qs (fromSa protocol spi p) size h = h
+module _ (capacity limit : ℕ) where
+  pairs-then : (g : Gateway) (qs : List Pair) (c : Call) → length (g .sad) ≡ placeCount * placeWords → Alike (pairs (g .sad)) qs
+      → Alike (pairs (after capacity limit g c .sad)) (pairsThen qs c)
+  unfolding after
+  pairs-then g qs (policy s) size h = h
+  pairs-then g qs (add p) size h = add-then (g .sad) qs p size h
+  pairs-then g qs (remove protocol spi) size h = remove-then (g .sad) qs protocol spi size h
+  pairs-then g qs (outbound p) size h = h
+  pairs-then g qs (inbound p) size h = h
+  pairs-then g qs (fromSa protocol spi p) size h = h
 
-pairs-run : (g : Gateway) (qs : List Pair) (cs : List Call) → length (g .sad) ≡ placeCount * placeWords → Alike (pairs (g .sad)) qs
-    → Alike (pairs (run g cs .sad)) (pairsFrom qs cs)
-unfolding run pairsFrom
-pairs-run g qs [] size h = h
-pairs-run g qs (c ∷ cs) size h = pairs-run (after g c) (pairsThen qs c) cs (pair-words-after g c size) (pairs-then g qs c size h)
+  pairs-run : (g : Gateway) (qs : List Pair) (cs : List Call) → length (g .sad) ≡ placeCount * placeWords → Alike (pairs (g .sad)) qs
+      → Alike (pairs (run capacity limit g cs .sad)) (pairsFrom qs cs)
+  unfolding run pairsFrom
+  pairs-run g qs [] size h = h
+  pairs-run g qs (c ∷ cs) size h = pairs-run (after capacity limit g c) (pairsThen qs c) cs (pair-words-after capacity limit g c size) (pairs-then g qs c size h)
 
 -- A table of zeros has no pair.
 zero-at : (n i : ℕ) → _≡_ {A = ℕ} (getD (replicate n 0) i 0) 0
@@ -380,9 +381,10 @@ unfolding Unique
 empty-alike = record { left = tt; right = tt; there = λ q m. m; back = λ q m. m; size = refl }
 
 -- After any sequence of calls the table holds the pairs that were added and not removed since, no two of one name.
-pub pairs-live : (address : ℕ) (cs : List Call) → Alike (pairs (run (fresh address) cs .sad)) (livePairs cs)
-pairs-live address cs =
-    pairs-run (fresh address) [] cs (length-replicate {A = ℕ} (placeCount * placeWords) 0)
+pub pairs-live : (capacity limit address : ℕ) (cs : List Call)
+    → Alike (pairs (run capacity limit (fresh capacity address) cs .sad)) (livePairs cs)
+pairs-live capacity limit address cs =
+    pairs-run capacity limit (fresh capacity address) [] cs (length-replicate {A = ℕ} (placeCount * placeWords) 0)
     (rw (no-pairs (replicate (placeCount * placeWords) 0) (zero-at (placeCount * placeWords)) 0 placeCount) empty-alike)
 
 few-pairs : (ws : List ℕ) (i n : ℕ) → length (placesFrom ws i n) ≤ n
@@ -396,8 +398,8 @@ few-pairs ws i (suc n) = by (liveAt ws i) (few-pairs ws (suc i) n)
 
 -- 'At most 64 live pairs.'
 pub at-most-64 : (cs : List Call) → length (livePairs cs) ≤ placeCount
-at-most-64 cs = omega (arith, pairs-live 0 cs .size, few-pairs (run (fresh 0) cs .sad) 0 placeCount)
+at-most-64 cs = omega (arith, pairs-live 0 0 0 cs .size, few-pairs (run 0 0 (fresh 0 0) cs .sad) 0 placeCount)
 
 -- 'Protocol and inbound SPI name a pair': no two live pairs have one name.
 pub one-name : (cs : List Call) → NamesDiffer (livePairs cs)
-one-name cs = names-differ (livePairs cs) (pairs-live 0 cs .right)
+one-name cs = names-differ (livePairs cs) (pairs-live 0 0 0 cs .right)

@@ -1,5 +1,5 @@
 -- The answer to the next call after any sequence of calls is the one by document 01's rules. Assumes nothing.
-use Prim.Native.Nat.{ℕ}
+use Prim.Native.Nat.{ℕ, _≤_}
 use mathlib.Core.Path.{_≡_, refl, sym, ap, _∙_, subst}
 use mathlib.Core.Bool.{Bool, true, false, cond}
 use mathlib.Core.List.{List, [], _∷_, map, List·Memᴰ, List·Memᴰ·head, List·Memᴰ·tail, List·Memᴰ·cases-cons, List·Memᴰ·not-nil}
@@ -25,7 +25,7 @@ use Rattle.decorrelate.specs.Form.{form}
 use Rattle.spd_cache.specs.Cache.{cached, lookedUp}
 use Rattle.spd_cache.specs.SlotLaws.{lookup-action}
 use Rattle.spd_words.specs.Words.{addressOf, rowsOf}
-use Rattle.spd.specs.SpdLaws.{spd-search}
+use Rattle.spd.specs.SpdLaws.{spd-search, within-more}
 use Rattle.sad.specs.Pairs.{Pair, pairs, live}
 use Rattle.verdicts.specs.declared.Verdict.{Verdict}
 use Rattle.verdicts.specs.declared.Verdict.the-variants.{NoSuchPair}
@@ -47,14 +47,14 @@ row-action d rs (q ∷ L) r vs h m e =
     (λ t. row-action d rs L r vs (λ q m. h q (List·Memᴰ·tail m)) t e)
     (List·Memᴰ·cases-cons m)
 
-module _ (address : ℕ) (rs : List PolicyRow) (g : Gateway) (s : Sound address rs g) where
+module _ (capacity limit : ℕ) (bound : limit ≤ capacity) (address : ℕ) (rs : List PolicyRow) (g : Gateway) (s : Sound capacity limit address rs g) where
   -- A search by the cache is the ordered search.
   search-sound : (d : Direction) (vs : List ℕ) → Combination ipv4Sizes vs
-      → lookedUp (cacheOf d (g .caches)) (rowsOf (g .spd) d) d vs .action ≡ orderedSearch d rs vs
+      → lookedUp (cacheOf d (g .caches)) (rowsOf capacity (g .spd) d) d vs .action ≡ orderedSearch d rs vs
   search-sound d vs ok =
-      let plain : orderedSearch d (policyRows (rowsOf (g .spd) d)) vs ≡ orderedSearch d rs vs
-      = rw (s .policy-words) (spd-search address rs (s .within) d vs ok) in
-      lookup-action (cacheOf d (g .caches)) (rowsOf (g .spd) d) d vs
+      let plain : orderedSearch d (policyRows (rowsOf capacity (g .spd) d)) vs ≡ orderedSearch d rs vs
+      = rw (s .policy-words) (spd-search capacity address rs (within-more limit capacity bound rs (s .within)) d vs ok) in
+      lookup-action (cacheOf d (g .caches)) (rowsOf capacity (g .spd) d) d vs
       (λ r m e. row-action d rs (form d rs) r vs (λ q n. normal-form-row action-≟ Discard ipv4Sizes (orderedSearch d rs) q n vs) (s .holding d .rows-of r m) e ∙ sym plain)
       ∙ plain
 
@@ -101,33 +101,37 @@ from-sa-alike qs rs h protocol spi p =
     by (Readable k) = rw (fitting-alike qs rs h protocol spi (shows k), triggered (readTrigger Out (triggerOf p (k .upper) (k .end))))
     by Unreadable = refl
 
-module _ (address : ℕ) (cs : List Call) where
-  abbrev pub now : Gateway
-  now = run (fresh address) cs
+-- The gateway after a sequence of calls.
+abbrev pub now : ℕ → ℕ → ℕ → List Call → Gateway
+now capacity limit address cs = run capacity limit (fresh capacity address) cs
+
+module _ (capacity limit : ℕ) (bound : limit ≤ capacity) (address : ℕ) (cs : List Call) where
+  abbrev gateway : Gateway
+  gateway = now capacity limit address cs
 
   -- 'In any sequence of lookups, policy changes and association changes, the cached answer is the one that an ordered search of the
   -- current policy gives.'
   pub cached-search : (d : Direction) (vs : List ℕ) → Combination ipv4Sizes vs
-      → lookedUp (cacheOf d (now .caches)) (rowsOf (now .spd) d) d vs .action ≡ orderedSearch d (current cs) vs
-  cached-search = search-sound address (current cs) now (sound address cs)
+      → lookedUp (cacheOf d (gateway .caches)) (rowsOf capacity (gateway .spd) d) d vs .action ≡ orderedSearch d (current limit cs) vs
+  cached-search = search-sound capacity limit bound address (current limit cs) gateway (sound capacity limit bound address cs)
 
-  pub alike : Alike (pairs (now .sad)) (livePairs cs)
-  alike = pairs-live address cs
+  alike : Alike (pairs (gateway .sad)) (livePairs cs)
+  alike = pairs-live capacity limit address cs
 
   module _ (p : List ℕ) (bytes : Bytes p) where
-    pub outbound-answer : goesOut now p .verdict ≡ outboundBy (orderedSearch Out (current cs)) (livePairs cs) p
+    pub outbound-answer : goesOut capacity gateway p .verdict ≡ outboundBy (orderedSearch Out (current limit cs)) (livePairs cs) p
     unfolding outboundCached
     outbound-answer = outbound-alike _ _ _ _ alike p (λ k e. cached-search Out (shows k) (shows-combination Out p k bytes e))
 
-    pub inbound-answer : comesIn now p .verdict ≡ inboundBy (orderedSearch In (current cs)) address (livePairs cs) p
+    pub inbound-answer : comesIn capacity gateway p .verdict ≡ inboundBy (orderedSearch In (current limit cs)) address (livePairs cs) p
     unfolding inboundCached
     inbound-answer =
-        inbound-alike _ _ _ _ alike p (addressOf (now .spd)) (λ k e. cached-search In (shows k) (shows-combination In p k bytes e))
-        ∙ ap (λ (a : ℕ). inboundBy (orderedSearch In (current cs)) a (livePairs cs) p) (address-kept address (current cs) now (sound address cs))
+        inbound-alike _ _ _ _ alike p (addressOf (gateway .spd)) (λ k e. cached-search In (shows k) (shows-combination In p k bytes e))
+        ∙ ap (λ (a : ℕ). inboundBy (orderedSearch In (current limit cs)) a (livePairs cs) p) (address-kept capacity limit address (current limit cs) gateway (sound capacity limit bound address cs))
 
   -- The answer to the next call, whatever it is, is the one that document 01 and RFC 4301 give: by the ordered search of the current policy and
   -- the live pairs, with no cache, table or normal form in sight.
-  pub next-answer : (c : Call) → OfBytes c → answered now c ≡ ruled address (current cs) (livePairs cs) c
+  pub next-answer : (c : Call) → OfBytes c → answered capacity limit gateway c ≡ ruled limit address (current limit cs) (livePairs cs) c
   unfolding answered
   next-answer (policy s) b = refl
   next-answer (add p) b = ap forPair (add-alike _ _ alike p)

@@ -1,10 +1,11 @@
 -- A gateway, the calls on it, and what it is after a sequence of them (document 01, 'Cache and associations'). Assumes nothing: these are definitions.
--- Each call does what the contract of its function says: `spd::accept`, `sad::add`, `sad::remove`, `gateway::outbound`, `inbound`, `from_sa`.
+-- Each call does what the contract of its function says: `spd::accept`, `sad::add`, `sad::remove`, `gateway::outbound`, `inbound`, `from_sa`,
+-- with any `capacity`, how many rows the words of its policy carry for each direction, and any `limit`, the most rows of a policy and of a
+-- normal form (21 and 22). The contracts have both at `rowLimit`.
 use Prim.Native.Nat.{ℕ, _*_}
 use mathlib.Core.List.{List, [], _∷_}
 use lib.ListN.{replicate}
 use Rattle.selectors.specs.declared.Direction.the-variants.{Out, In}
-use Rattle.policy.specs.Words.{rowLimit}
 use Rattle.policy_text.specs.Format.{parsePolicy}
 use Rattle.spd.specs.declared.Acceptance.{Acceptance}
 use Rattle.spd.specs.declared.Caches.{Caches}
@@ -27,8 +28,8 @@ pub record Gateway : Type 0 where
   pub caches : Caches
 
 -- 'A fresh gate holds the gateway address it was made with, never changed, the policy without rows, no pair and empty caches.'
-abbrev pub fresh : ℕ → Gateway
-fresh address = record { spd = spdWords address []; sad = replicate (placeCount * placeWords) 0; caches = emptyCaches }
+abbrev pub fresh : ℕ → ℕ → Gateway
+fresh capacity address = record { spd = spdWords capacity address []; sad = replicate (placeCount * placeWords) 0; caches = emptyCaches }
 
 pub data Call : Type 0 where
   policy : List ℕ → Call
@@ -38,36 +39,11 @@ pub data Call : Type 0 where
   inbound : List ℕ → Call
   fromSa : ℕ → ℕ → List ℕ → Call
 
-abbrev pub goesOut : Gateway → List ℕ → Answered
-goesOut g p = outboundCached (g .caches .outbound) (rowsOf (g .spd) Out) (pairs (g .sad)) p
+abbrev pub goesOut : ℕ → Gateway → List ℕ → Answered
+goesOut capacity g p = outboundCached (g .caches .outbound) (rowsOf capacity (g .spd) Out) (pairs (g .sad)) p
 
-abbrev pub comesIn : Gateway → List ℕ → Answered
-comesIn g p = inboundCached (g .caches .inbound) (rowsOf (g .spd) In) (addressOf (g .spd)) (pairs (g .sad)) p
-
--- The gateway after a call.
-abbrev pub withCaches : Gateway → Caches → Gateway
-withCaches g c = record { spd = g .spd; sad = g .sad; caches = c }
-
-abbrev pub withPairs : Gateway → List ℕ → Gateway
-withPairs g ws = record { spd = g .spd; sad = ws; caches = g .caches }
-
-unfoldable pub after : Gateway → Call → Gateway
-after g (policy s) =
-    record {
-      spd = spdAfter rowLimit (g .spd) (parsePolicy rowLimit s);
-      sad = g .sad;
-      caches = cachesAfter rowLimit (g .caches) (parsePolicy rowLimit s);
-    }
-after g (add p) = withPairs g (added (g .sad) p)
-after g (remove protocol spi) = withPairs g (removed (g .sad) protocol spi)
-after g (outbound p) = withCaches g (record { outbound = goesOut g p .cache; inbound = g .caches .inbound })
-after g (inbound p) = withCaches g (record { outbound = g .caches .outbound; inbound = comesIn g p .cache })
-after g (fromSa protocol spi p) = g
-
--- 'A sequence … starts from a fresh gate and hands each call the gate and cache that the call before left.'
-unfoldable pub run : Gateway → List Call → Gateway
-run g [] = g
-run g (c ∷ cs) = run (after g c) cs
+abbrev pub comesIn : ℕ → Gateway → List ℕ → Answered
+comesIn capacity g p = inboundCached (g .caches .inbound) (rowsOf capacity (g .spd) In) (addressOf (g .spd)) (pairs (g .sad)) p
 
 -- The answer to a call.
 pub data Answer : Type 0 where
@@ -75,15 +51,41 @@ pub data Answer : Type 0 where
   forPair : Outcome → Answer
   forPacket : Verdict → Answer
 
-unfoldable pub answered : Gateway → Call → Answer
-answered g (policy s) = forPolicy (accepting rowLimit (parsePolicy rowLimit s))
-answered g (add p) = forPair (addOutcome (pairs (g .sad)) p)
-answered g (remove protocol spi) = forPair (removeOutcome (pairs (g .sad)) protocol spi)
-answered g (outbound p) = forPacket (goesOut g p .verdict)
-answered g (inbound p) = forPacket (comesIn g p .verdict)
-answered g (fromSa protocol spi p) = forPacket (fromSaBy protocol spi (pairs (g .sad)) p)
+-- The gateway after a call, after a sequence of them, and the answer to the next.
+abbrev pub withCaches : Gateway → Caches → Gateway
+withCaches g c = record { spd = g .spd; sad = g .sad; caches = c }
 
--- Document 01's number of it.
+abbrev pub withPairs : Gateway → List ℕ → Gateway
+withPairs g ws = record { spd = g .spd; sad = ws; caches = g .caches }
+
+module _ (capacity limit : ℕ) where
+  unfoldable pub after : Gateway → Call → Gateway
+  after g (policy s) =
+      record {
+        spd = spdAfter capacity limit (g .spd) (parsePolicy limit s);
+        sad = g .sad;
+        caches = cachesAfter limit (g .caches) (parsePolicy limit s);
+      }
+  after g (add p) = withPairs g (added (g .sad) p)
+  after g (remove protocol spi) = withPairs g (removed (g .sad) protocol spi)
+  after g (outbound p) = withCaches g (record { outbound = goesOut capacity g p .cache; inbound = g .caches .inbound })
+  after g (inbound p) = withCaches g (record { outbound = g .caches .outbound; inbound = comesIn capacity g p .cache })
+  after g (fromSa protocol spi p) = g
+
+  -- 'A sequence … starts from a fresh gate and hands each call the gate and cache that the call before left.'
+  unfoldable pub run : Gateway → List Call → Gateway
+  run g [] = g
+  run g (c ∷ cs) = run (after g c) cs
+
+  unfoldable pub answered : Gateway → Call → Answer
+  answered g (policy s) = forPolicy (accepting limit (parsePolicy limit s))
+  answered g (add p) = forPair (addOutcome (pairs (g .sad)) p)
+  answered g (remove protocol spi) = forPair (removeOutcome (pairs (g .sad)) protocol spi)
+  answered g (outbound p) = forPacket (goesOut capacity g p .verdict)
+  answered g (inbound p) = forPacket (comesIn capacity g p .verdict)
+  answered g (fromSa protocol spi p) = forPacket (fromSaBy protocol spi (pairs (g .sad)) p)
+
+-- Document 01's number of an answer.
 abbrev pub answerNumber : Answer → ℕ
 answerNumber (forPolicy a) = acceptanceNumber a
 answerNumber (forPair o) = outcomeNumber o

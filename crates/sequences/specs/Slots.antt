@@ -1,5 +1,5 @@
 -- The slot rule over sequences: the slots of each cache are what document 01's rule makes of the calls. Assumes nothing.
-use Prim.Native.Nat.{ℕ, zero, suc, _+_, _*_, _%_}
+use Prim.Native.Nat.{ℕ, zero, suc, _+_, _*_, _≤_, _%_}
 use native.Mathlib.Omega.{arith}
 use mathlib.Core.Path.{_≡_, refl, sym, ap, _∙_}
 use mathlib.Core.Bool.{Bool, true, false, cond}
@@ -70,28 +70,33 @@ emptied-slots : (c : Cache) (o : Option (List PolicyRow)) → slotsOf (cacheOr c
 emptied-slots c none = refl
 emptied-slots c (some rs) = ap (λ (L : List PolicyRow). record { taken = L; turn = 0 }) empty-cached
 
-slots-after : (d : Direction) (address : ℕ) (rs : List PolicyRow) (g : Gateway) → Sound address rs g → (c : Call)
-    → slotsOf (cacheOf d (after g c .caches)) ≡ slotsOr (slotsSearched d rs (slotsOf (cacheOf d (g .caches))) (searched d address c)) (accepts c)
-slots-after d address rs g s c =
-    ap slotsOf (cache-after d g c)
-    ∙ emptied-slots (cacheSearched d (rowsOf (g .spd) d) (cacheOf d (g .caches)) (searched d (addressOf (g .spd)) c)) (accepts c)
-    ∙ ap (λ (t : Slots). slotsOr t (accepts c))
-    (searched-slots d rs (rowsOf (g .spd) d) (rows-read address rs g s d) (cacheOf d (g .caches)) (s .holding d .filled) (searched d (addressOf (g .spd)) c))
-    ∙ ap (λ (a : ℕ). slotsOr (slotsSearched d rs (slotsOf (cacheOf d (g .caches))) (searched d a c)) (accepts c)) (address-kept address rs g s)
+module _ (capacity limit : ℕ) (bound : limit ≤ capacity) (d : Direction) (address : ℕ) where
+  slots-after : (rs : List PolicyRow) (g : Gateway) → Sound capacity limit address rs g → (c : Call)
+      → slotsOf (cacheOf d (after capacity limit g c .caches))
+      ≡ slotsOr (slotsSearched d rs (slotsOf (cacheOf d (g .caches))) (searched d address c)) (accepts limit c)
+  slots-after rs g s c =
+      ap slotsOf (cache-after capacity limit d g c)
+      ∙ emptied-slots (cacheSearched d (rowsOf capacity (g .spd) d) (cacheOf d (g .caches)) (searched d (addressOf (g .spd)) c)) (accepts limit c)
+      ∙ ap (λ (t : Slots). slotsOr t (accepts limit c))
+      (searched-slots d rs (rowsOf capacity (g .spd) d) (rows-read capacity limit bound address rs g s d) (cacheOf d (g .caches)) (s .holding d .filled) (searched d (addressOf (g .spd)) c))
+      ∙ ap (λ (a : ℕ). slotsOr (slotsSearched d rs (slotsOf (cacheOf d (g .caches))) (searched d a c)) (accepts limit c))
+      (address-kept capacity limit address rs g s)
 
-slots-run : (d : Direction) (address : ℕ) (rs : List PolicyRow) (g : Gateway) → Sound address rs g → (cs : List Call)
-    → slotsOf (cacheOf d (run g cs .caches)) ≡ slotsFrom d address rs (slotsOf (cacheOf d (g .caches))) cs
-unfolding run slotsFrom
-slots-run d address rs g s [] = refl
-slots-run d address rs g s (c ∷ cs) =
-    slots-run d address (instead rs (accepts c)) (after g c) (after-sound address rs g s c) cs
-    ∙ ap (λ (t : Slots). slotsFrom d address (instead rs (accepts c)) t cs) (slots-after d address rs g s c)
+  slots-run : (rs : List PolicyRow) (g : Gateway) → Sound capacity limit address rs g → (cs : List Call)
+      → slotsOf (cacheOf d (run capacity limit g cs .caches)) ≡ slotsFrom limit d address rs (slotsOf (cacheOf d (g .caches))) cs
+  unfolding run slotsFrom
+  slots-run rs g s [] = refl
+  slots-run rs g s (c ∷ cs) =
+      slots-run (instead rs (accepts limit c)) (after capacity limit g c) (after-sound capacity limit bound address rs g s c) cs
+      ∙ ap (λ (t : Slots). slotsFrom limit d address (instead rs (accepts limit c)) t cs) (slots-after rs g s c)
 
 fresh-slots : (d : Direction) → slotsOf (cacheOf d emptyCaches) ≡ noSlots
 fresh-slots Out = emptied-slots emptyCache (some [])
 fresh-slots In = emptied-slots emptyCache (some [])
 
 -- After any sequence of calls the slots of each direction are those that the rule makes of the calls.
-pub slot-rule : (d : Direction) (address : ℕ) (cs : List Call) → slotsOf (cacheOf d (run (fresh address) cs .caches)) ≡ slots d address cs
-slot-rule d address cs =
-    slots-run d address [] (fresh address) (fresh-sound address) cs ∙ ap (λ (t : Slots). slotsFrom d address [] t cs) (fresh-slots d)
+pub slot-rule : (capacity limit : ℕ) → limit ≤ capacity → (d : Direction) (address : ℕ) (cs : List Call)
+    → slotsOf (cacheOf d (run capacity limit (fresh capacity address) cs .caches)) ≡ slots limit d address cs
+slot-rule capacity limit bound d address cs =
+    slots-run capacity limit bound d address [] (fresh capacity address) (fresh-sound capacity limit address) cs
+    ∙ ap (λ (t : Slots). slotsFrom limit d address [] t cs) (fresh-slots d)

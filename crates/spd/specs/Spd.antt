@@ -10,7 +10,7 @@ use Rattle.policy.specs.Policy.{PolicyRow}
 use Rattle.policy_text.specs.declared.Parsed.{Parsed}
 use Rattle.policy_text.specs.declared.Parsed.the-variants.{Rows, NotHeader as NoHeader, NotEnded as NoEnd, TooMany as OverRows, BadRow as Bad, NoRoom}
 use Rattle.policy_text.specs.Format.{Policy, refused, rows}
-use Rattle.decorrelate.specs.Form.{form, formWords, padded, directionNumber}
+use Rattle.decorrelate.specs.Form.{form, formRoom, directionNumber}
 use Rattle.spd_cache.specs.Cache.{emptyCache}
 use Rattle.spd_words.specs.Words.{addressOf}
 use Rattle.spd.specs.declared.Acceptance.{Acceptance}
@@ -18,15 +18,15 @@ use Rattle.spd.specs.declared.Acceptance.the-variants.{Accepted, NotHead
 use Rattle.spd.specs.declared.Caches.{Caches}
 use Rattle.spd.specs.declared.Settled.{Settled}
 
--- The words of a gateway with this address: the counts of the rows for out and for in, and a room for the limit's rows for each.
+-- The words of a gateway with this address: the counts of the rows for out and for in, and a room for the rows of each.
 abbrev pub heldWords : ℕ → ℕ → List ℕ → ℕ → List ℕ → List ℕ
 heldWords address outCount outRoom inCount inRoom = address ∷ outCount ∷ inCount ∷ (outRoom ++ inRoom)
 
 -- The words of a gateway with this address that holds this policy: 'A fresh gate holds the gateway address it was made with, never
--- changed, the policy without rows'.
-abbrev pub spdWords : ℕ → List PolicyRow → List ℕ
-spdWords address rs =
-    heldWords address (length (form Out rs)) (padded (formWords (form Out rs))) (length (form In rs)) (padded (formWords (form In rs)))
+-- changed, the policy without rows'. Each room is for `capacity` rows.
+abbrev pub spdWords : ℕ → ℕ → List PolicyRow → List ℕ
+spdWords capacity address rs =
+    heldWords address (length (form Out rs)) (formRoom capacity Out rs) (length (form In rs)) (formRoom capacity In rs)
 
 -- A refused file is refused with its own answer. (`Rows` and `NoRoom` refuse no file.)
 abbrev pub refusal : Parsed → Acceptance
@@ -55,9 +55,9 @@ ifAccepted (BadRow i) new old = old
 ifAccepted (TooLarge d) new old = old
 
 -- The words after a policy file. The address is 'never changed'.
-abbrev pub spdAfter : ℕ → List ℕ → Policy → List ℕ
-spdAfter limit ws (refused p) = ws
-spdAfter limit ws (rows rs) = ifAccepted (accepting limit (rows rs)) (spdWords (addressOf ws) rs) ws
+abbrev pub spdAfter : ℕ → ℕ → List ℕ → Policy → List ℕ
+spdAfter capacity limit ws (refused p) = ws
+spdAfter capacity limit ws (rows rs) = ifAccepted (accepting limit (rows rs)) (spdWords capacity (addressOf ws) rs) ws
 
 -- 'A fresh gate holds … empty caches.'
 abbrev pub emptyCaches : Caches

@@ -8,7 +8,6 @@ use borrow.Author.Tests.{le-leb, lt-leb}
 use Rattle.selectors.specs.declared.Direction.{Direction}
 use Rattle.selectors.specs.declared.Direction.the-variants.{Out, In}
 use Rattle.policy.specs.Policy.{PolicyRow}
-use Rattle.policy.specs.Words.{rowLimit}
 use Rattle.policy_text.specs.Format.{rows}
 use Rattle.decorrelate.specs.Form.{form}
 use Rattle.decorrelate.specs.RoomLaws.{Held}
@@ -18,21 +17,21 @@ use Rattle.spd.specs.Spd.{heldWords, emptyCaches, answer, settled, spdAf
 use Rattle.spd_words.specs.Words.{addressOf}
 
 -- The answers to a policy of these rows, and the words after it.
-module _ (c : Caches) (ws : List ℕ) (rs : List PolicyRow) where
-  pub out-too-large : rowLimit < length (form Out rs)
-      → (answer (TooLarge Out) c ≡ settled rowLimit c (rows rs)) × (ws ≡ spdAfter rowLimit ws (rows rs))
-  out-too-large h = let e = lt-leb (length (form Out rs)) rowLimit h in (rw e, rw e)
+module _ (capacity limit : ℕ) (c : Caches) (ws : List ℕ) (rs : List PolicyRow) where
+  pub out-too-large : limit < length (form Out rs)
+      → (answer (TooLarge Out) c ≡ settled limit c (rows rs)) × (ws ≡ spdAfter capacity limit ws (rows rs))
+  out-too-large h = let e = lt-leb (length (form Out rs)) limit h in (rw e, rw e)
 
-  pub in-too-large : length (form Out rs) ≤ rowLimit → rowLimit < length (form In rs)
-      → (answer (TooLarge In) c ≡ settled rowLimit c (rows rs)) × (ws ≡ spdAfter rowLimit ws (rows rs))
+  pub in-too-large : length (form Out rs) ≤ limit → limit < length (form In rs)
+      → (answer (TooLarge In) c ≡ settled limit c (rows rs)) × (ws ≡ spdAfter capacity limit ws (rows rs))
   in-too-large g h =
-      let e = le-leb (length (form Out rs)) rowLimit g in
-      let f = lt-leb (length (form In rs)) rowLimit h in
+      let e = le-leb (length (form Out rs)) limit g in
+      let f = lt-leb (length (form In rs)) limit h in
       (rw (e, f), rw (e, f))
 
-  pub accepted : (n m : ℕ) (a b : List ℕ) → Held Out rs n a → Held In rs m b
-      → (answer Accepted emptyCaches ≡ settled rowLimit c (rows rs)) × (heldWords (addressOf ws) n a m b ≡ spdAfter rowLimit ws (rows rs))
+  pub accepted : (n m : ℕ) (a b : List ℕ) → Held capacity limit Out rs n a → Held capacity limit In rs m b
+      → (answer Accepted emptyCaches ≡ settled limit c (rows rs)) × (heldWords (addressOf ws) n a m b ≡ spdAfter capacity limit ws (rows rs))
   accepted n m a b p q =
-      let u = le-leb (length (form Out rs)) rowLimit (omega (arith, p .few, p .rows)) in
-      let v = le-leb (length (form In rs)) rowLimit (omega (arith, q .few, q .rows)) in
+      let u = le-leb (length (form Out rs)) limit (omega (arith, p .few, p .rows)) in
+      let v = le-leb (length (form In rs)) limit (omega (arith, q .few, q .rows)) in
       (rw (u, v), rw (u, v, p .words, q .words, p .rows, q .rows))

@@ -1,12 +1,12 @@
 -- The laws of writing the words of a gateway to their places. Assumes nothing.
-use Prim.Native.Nat.{ℕ, suc, _+_, _≤_}
+use Prim.Native.Nat.{ℕ, suc, _+_, _*_, _≤_}
 use native.Mathlib.Omega.{arith}
 use mathlib.Core.Path.{_≡_, ap, _∙_}
 use mathlib.Core.List.{List, [], _∷_, _++_, append-nil}
 use lib.ListN.{length, set, drop, length-append, length-drop, drop-of-length-le}
 use lib.Seq.{paste, take-all, take-at}
 use Rattle.selectors.specs.declared.Direction.the-variants.{In}
-use Rattle.policy.specs.Words.{policyWords}
+use Rattle.policy.specs.Words.{rowWords}
 use Rattle.spd_words.specs.Words.{spdSize, rowsAt}
 use Rattle.spd.specs.Spd.{heldWords}
 
@@ -26,6 +26,8 @@ rooms-written k (x ∷ y ∷ z ∷ rest) address n m a b h p q =
     ∙ rw (take-at front tail (3 + k) (omega arith), take-all k b (omega arith), drop-of-length-le (front ++ tail) {i = 3 + k + k} size)
     (append-nil (front ++ b))
 
-pub held-written : (ws : List ℕ) (address n m : ℕ) (a b : List ℕ) → length ws ≡ spdSize → length a ≡ policyWords → length b ≡ policyWords
-    → paste (paste (set (set (set ws 0 address) 1 n) 2 m) 3 a policyWords) (rowsAt In) b policyWords ≡ heldWords address n a m b
-held-written ws address n m a b h p q = rooms-written policyWords ws address n m a b h p q
+pub held-written : (capacity : ℕ) (ws : List ℕ) (address n m : ℕ) (a b : List ℕ) → length ws ≡ spdSize capacity
+    → length a ≡ capacity * rowWords → length b ≡ capacity * rowWords
+    → paste (paste (set (set (set ws 0 address) 1 n) 2 m) 3 a (capacity * rowWords)) (rowsAt capacity In) b (capacity * rowWords)
+    ≡ heldWords address n a m b
+held-written capacity ws address n m a b h p q = rooms-written (capacity * rowWords) ws address n m a b h p q

@@ -87,7 +87,7 @@ fn write(
 
 // A fresh gateway holds its address and the policy without rows.
 pub fn fresh(words: &mut [u64; SPD_WORDS], address: u32) -> Caches
-    ensures { λ r. ⌜ (r ≡ emptyCaches) × (now (words .exit) ≡ spdWords address []) ⌝ }
+    ensures { λ r. ⌜ (r ≡ emptyCaches) × (now (words .exit) ≡ spdWords rowLimit address []) ⌝ }
 {
     let none = [0u64; POLICY_WORDS];
     write(words, address as u64, 0, &none, 0, &none);
@@ -104,7 +104,7 @@ fn refuse(acceptance: Acceptance, caches: Caches) -> Settled
 // Takes the rows of a policy: both normal forms are laid out before anything lent is written.
 fn load(words: &mut [u64; SPD_WORDS], caches: Caches, policy: &[u64]) -> Settled
     ensures { λ r. ⌜ r ≡ settled rowLimit caches (rows (policyRows (now (policy .entry)))) ⌝ }
-    ensures { λ _. ⌜ now (words .exit) ≡ spdAfter rowLimit (now (words .entry)) (rows (policyRows (now (policy .entry)))) ⌝ }
+    ensures { λ _. ⌜ now (words .exit) ≡ spdAfter rowLimit rowLimit (now (words .entry)) (rows (policyRows (now (policy .entry)))) ⌝ }
 {
     let mut outbound = [0u64; POLICY_WORDS];
     let out_form = decorrelate::form_of(policy, Direction::Out, &mut outbound);
@@ -128,7 +128,7 @@ fn load(words: &mut [u64; SPD_WORDS], caches: Caches, policy: &[u64]) -> Settled
 // (There is room for the limit's rows.)
 pub fn accept(words: &mut [u64; SPD_WORDS], caches: Caches, bytes: &[u8]) -> Settled
     ensures { λ r. ⌜ r ≡ settled rowLimit caches (parsePolicy rowLimit (now (bytes .entry))) ⌝ }
-    ensures { λ _. ⌜ now (words .exit) ≡ spdAfter rowLimit (now (words .entry)) (parsePolicy rowLimit (now (bytes .entry))) ⌝ }
+    ensures { λ _. ⌜ now (words .exit) ≡ spdAfter rowLimit rowLimit (now (words .entry)) (parsePolicy rowLimit (now (bytes .entry))) ⌝ }
 {
     let mut policy = [0u64; POLICY_WORDS];
     let parsed = policy_parse::parse(bytes, LIMIT, &mut policy);

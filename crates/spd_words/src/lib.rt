@@ -26,7 +26,7 @@ fn count_at(direction: Direction) -> usize
 }
 
 fn rows_at(direction: Direction) -> usize
-    ensures { λ r. ⌜ (r ≡ rowsAt direction) × (r ≤ rowsAt Direction.In) ⌝ }
+    ensures { λ r. ⌜ (r ≡ rowsAt rowLimit direction) × (r ≤ rowsAt rowLimit Direction.In) ⌝ }
 {
     match direction {
         Direction::Out => OUT_ROWS,
@@ -54,7 +54,7 @@ pub fn address_of(words: &[u64; SPD_WORDS]) -> u64
 
 // The normal-form rows that the gateway holds for a direction, a part of the lent words.
 pub fn rows_of(words: &[u64; SPD_WORDS], direction: Direction) -> &[u64]
-    ensures { λ r. ⌜ now r ≡ rowsOf (now (words .entry)) direction ⌝ }
+    ensures { λ r. ⌜ now r ≡ rowsOf rowLimit (now (words .entry)) direction ⌝ }
 {
     let all: &[u64] = words;
     let count = capped(all[count_at(direction)]);

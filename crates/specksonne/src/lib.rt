@@ -5,8 +5,7 @@ ghost use lib.ListN.{length, replicate};
 ghost use Rattle.selectors.specs.Value.{combination};
 ghost use Rattle.packet.specs.Read.{readPacket};
 ghost use Rattle.policy.specs.Policy.{orderedSearch, matchFrom};
-ghost use Rattle.policy.specs.Words.{policyRows, rowWords, rowLimit};
-ghost use Rattle.row_records.specs.Records.{rowOf};
+ghost use Rattle.policy.specs.Words.{policyRows, rowWords, rowLimit, rowOf};
 ghost use Rattle.policy_text.specs.Format.{parsePolicy};
 ghost use Rattle.policy_parse.specs.Parsing.{parsedIn, parsedRoom, parsedNumber};
 ghost use Rattle.policy_print.specs.Printing.{printed, printedIn, printedRoom, printedNumber};
@@ -27,7 +26,7 @@ ghost use Rattle.specksonne.specs.Sizes.{abiNumber, versionNumber, table
 use packet::Reading;
 use policy::LIMIT;
 use policy::ROW_WORDS;
-use row_records::Row;
+use policy::Row;
 use sad::PLACE_WORDS;
 use sad::PLACES;
 use selectors::Direction;
@@ -73,7 +72,7 @@ pub extern "C" fn specksonne_version() -> u64
 // The words of a gateway's policy.
 #[no_mangle]
 pub extern "C" fn specksonne_policy_words() -> usize
-    ensures { λ r. ⌜ r ≡ spdSize ⌝ }
+    ensures { λ r. ⌜ r ≡ spdSize rowLimit ⌝ }
 {
     SPD_WORDS
 }
@@ -127,7 +126,7 @@ pub extern "C" fn specksonne_fresh(
     inbound: &mut [u64; CACHE_WORDS],
     address: u32,
 )
-    ensures { λ _. ⌜ now (policy .exit) ≡ spdWords address [] ⌝ }
+    ensures { λ _. ⌜ now (policy .exit) ≡ spdWords rowLimit address [] ⌝ }
     ensures { λ _. ⌜ (now (table .exit) ≡ replicate tableSize 0) × (pairs (now (table .exit)) ≡ []) ⌝ }
     ensures { λ _. ⌜ (now (outbound .exit) ≡ cacheWords emptyCache) × (now (inbound .exit) ≡ cacheWords emptyCache) ⌝ }
 {
@@ -149,7 +148,7 @@ pub extern "C" fn specksonne_policy(
     carries: &mut u64,
 ) -> u64
     ensures { λ r. ⌜ r ≡ acceptanceNumber (accepting rowLimit (parsePolicy rowLimit (now (bytes .entry)))) ⌝ }
-    ensures { λ _. ⌜ now (policy .exit) ≡ spdAfter rowLimit (now (policy .entry)) (parsePolicy rowLimit (now (bytes .entry))) ⌝ }
+    ensures { λ _. ⌜ now (policy .exit) ≡ spdAfter rowLimit rowLimit (now (policy .entry)) (parsePolicy rowLimit (now (bytes .entry))) ⌝ }
     ensures { λ _. ⌜ now (outbound .exit) ≡ cacheWords (cachesAfter rowLimit (cachesFrom (now (outbound .entry)) (now (inbound .entry))) (parsePolicy rowLimit (now (bytes .entry))) .outbound) ⌝ }
     ensures { λ _. ⌜ now (inbound .exit) ≡ cacheWords (cachesAfter rowLimit (cachesFrom (now (outbound .entry)) (now (inbound .entry))) (parsePolicy rowLimit (now (bytes .entry))) .inbound) ⌝ }
     ensures { λ _. ⌜ now (carries .exit) ≡ acceptanceCarries (accepting rowLimit (parsePolicy rowLimit (now (bytes .entry)))) ⌝ }
@@ -370,9 +369,9 @@ pub extern "C" fn specksonne_outbound(
     bytes: &[u8],
     carries: &mut [u64; 3],
 ) -> u64
-    ensures { λ r. ⌜ r ≡ verdictNumber (outboundCached (cacheFrom (now (cache .entry))) (rowsOf (now (policy .entry)) Direction.Out) (pairs (now (table .entry))) (now (bytes .entry)) .verdict) ⌝ }
-    ensures { λ _. ⌜ now (carries .exit) ≡ carried (outboundCached (cacheFrom (now (cache .entry))) (rowsOf (now (policy .entry)) Direction.Out) (pairs (now (table .entry))) (now (bytes .entry)) .verdict) ⌝ }
-    ensures { λ _. ⌜ now (cache .exit) ≡ cacheWords (outboundCached (cacheFrom (now (cache .entry))) (rowsOf (now (policy .entry)) Direction.Out) (pairs (now (table .entry))) (now (bytes .entry)) .cache) ⌝ }
+    ensures { λ r. ⌜ r ≡ verdictNumber (outboundCached (cacheFrom (now (cache .entry))) (rowsOf rowLimit (now (policy .entry)) Direction.Out) (pairs (now (table .entry))) (now (bytes .entry)) .verdict) ⌝ }
+    ensures { λ _. ⌜ now (carries .exit) ≡ carried (outboundCached (cacheFrom (now (cache .entry))) (rowsOf rowLimit (now (policy .entry)) Direction.Out) (pairs (now (table .entry))) (now (bytes .entry)) .verdict) ⌝ }
+    ensures { λ _. ⌜ now (cache .exit) ≡ cacheWords (outboundCached (cacheFrom (now (cache .entry))) (rowsOf rowLimit (now (policy .entry)) Direction.Out) (pairs (now (table .entry))) (now (bytes .entry)) .cache) ⌝ }
 {
     let going_out = gateway_in_place::outbound(policy, table, cache, bytes);
     *carries = answer_numbers::verdict_carries(going_out);
@@ -388,9 +387,9 @@ pub extern "C" fn specksonne_inbound(
     bytes: &[u8],
     carries: &mut [u64; 3],
 ) -> u64
-    ensures { λ r. ⌜ r ≡ verdictNumber (inboundCached (cacheFrom (now (cache .entry))) (rowsOf (now (policy .entry)) Direction.In) (addressOf (now (policy .entry))) (pairs (now (table .entry))) (now (bytes .entry)) .verdict) ⌝ }
-    ensures { λ _. ⌜ now (carries .exit) ≡ carried (inboundCached (cacheFrom (now (cache .entry))) (rowsOf (now (policy .entry)) Direction.In) (addressOf (now (policy .entry))) (pairs (now (table .entry))) (now (bytes .entry)) .verdict) ⌝ }
-    ensures { λ _. ⌜ now (cache .exit) ≡ cacheWords (inboundCached (cacheFrom (now (cache .entry))) (rowsOf (now (policy .entry)) Direction.In) (addressOf (now (policy .entry))) (pairs (now (table .entry))) (now (bytes .entry)) .cache) ⌝ }
+    ensures { λ r. ⌜ r ≡ verdictNumber (inboundCached (cacheFrom (now (cache .entry))) (rowsOf rowLimit (now (policy .entry)) Direction.In) (addressOf (now (policy .entry))) (pairs (now (table .entry))) (now (bytes .entry)) .verdict) ⌝ }
+    ensures { λ _. ⌜ now (carries .exit) ≡ carried (inboundCached (cacheFrom (now (cache .entry))) (rowsOf rowLimit (now (policy .entry)) Direction.In) (addressOf (now (policy .entry))) (pairs (now (table .entry))) (now (bytes .entry)) .verdict) ⌝ }
+    ensures { λ _. ⌜ now (cache .exit) ≡ cacheWords (inboundCached (cacheFrom (now (cache .entry))) (rowsOf rowLimit (now (policy .entry)) Direction.In) (addressOf (now (policy .entry))) (pairs (now (table .entry))) (now (bytes .entry)) .cache) ⌝ }
 {
     let coming_in = gateway_in_place::inbound(policy, table, cache, bytes);
     *carries = answer_numbers::verdict_carries(coming_in);

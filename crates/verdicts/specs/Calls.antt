@@ -42,25 +42,44 @@ outboundRead search pairs Unreadable = NotReadable
 unfoldable pub outboundBy : (List ℕ → Action) → List Pair → List ℕ → Verdict
 outboundBy search pairs p = outboundRead search pairs (readPacket Out p)
 
+-- The protocols of ESP and AH, the fewest bytes that their upper parts have, and where in it AH's SPI stands.
+abbrev pub espProtocol : ℕ
+espProtocol = 50
+
+abbrev pub ahProtocol : ℕ
+ahProtocol = 51
+
+abbrev pub espBytes : ℕ
+espBytes = 8
+
+abbrev pub ahBytes : ℕ
+ahBytes = 12
+
+abbrev pub ahSpiAt : ℕ
+ahSpiAt = 4
+
 -- 'If the destination is the gateway and the protocol 50 or 51'.
 abbrev pub esp : Packet → Bool
-esp k = eqb (number (k .selectors .protocol)) 50
+esp k = eqb (number (k .selectors .protocol)) espProtocol
 
 unfoldable pub forGateway : ℕ → Packet → Bool
-forGateway address k = eqb (number (k .selectors .local)) address && (esp k || eqb (number (k .selectors .protocol)) 51)
+forGateway address k = eqb (number (k .selectors .local)) address && (esp k || eqb (number (k .selectors .protocol)) ahProtocol)
 
 -- 'A fragment (offset not 0, or more-fragments set) is 15; an upper part under 8 bytes for ESP or 12 for AH is 16; the SPI is upper bytes
 -- 0 to 3 for ESP, 4 to 7 for AH; no live pair is 13; else 4.'
 abbrev pub fragment : Packet → Bool
 fragment k = not (eqb (k .offset) 0) || k .«more_fragments»
 
+abbrev pub leastUpper : Packet → ℕ
+leastUpper k = cond (esp k) espBytes ahBytes
+
 abbrev pub spiOf : List ℕ → Packet → ℕ
-spiOf p k = cond (esp k) (four p (k .upper)) (four p (k .upper + 4))
+spiOf p k = cond (esp k) (four p (k .upper)) (four p (k .upper + ahSpiAt))
 
 unfoldable pub toIpsec : List Pair → List ℕ → Packet → Verdict
 toIpsec pairs p k =
     cond (fragment k) IpsecFragment
-    (cond (ltb (k .end - k .upper) (cond (esp k) 8 12)) IpsecTooShort
+    (cond (ltb (k .end - k .upper) (leastUpper k)) IpsecTooShort
     (cond (live (number (k .selectors .protocol)) (spiOf p k) pairs)
     (ToIpsec (number (k .selectors .protocol)) (spiOf p k))
     NoSuchPair))

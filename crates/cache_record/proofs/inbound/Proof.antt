@@ -14,6 +14,7 @@ use denote.Triple.Spec.{tripleOf}
 use denote.Triple.Table.{entered, cited}
 use Rattle.selectors.specs.declared.Direction.the-variants.{In}
 use Rattle.sad.specs.Pairs.{pairs}
+use Rattle.policy.specs.Words.{rowLimit}
 use Rattle.spd_words.specs.Words.{rowsOf, addressOf}
 use Rattle.spd_cache.specs.declared.Cache.{Cache}
 use Rattle.gateway.specs.Cached.{inboundCached}
@@ -28,7 +29,7 @@ use Rattle.cache_record.proofs.inbound.Statement as stated
 use Rattle.cache_record.proofs.inbound.Code as code
 
 abbrev answer : Cache → List ℕ → List ℕ → List ℕ → Answered
-answer cache policy table bytes = inboundCached cache (rowsOf policy In) (addressOf policy) (pairs table) bytes
+answer cache policy table bytes = inboundCached cache (rowsOf rowLimit policy In) (addressOf policy) (pairs table) bytes
 
 -- the contract is the one that the walk is about
 clauses-is : {M : Type 1} (𝓤 : URA M) (H : Heap 𝓤) (A : Atoms 𝓤) (mem : Memory → SProp 𝓤) (run : Routine → Fun 𝓤) → f.clauses 𝓤 H A mem run ≡ in-place answer 𝓤

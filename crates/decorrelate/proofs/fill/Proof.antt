@@ -15,7 +15,7 @@ use Rattle.decorrelate.proofs.fill.Tie as tie
 
 abbrev Inv-loop : tie.InvT-loop
 Inv-loop words₀ from used i₀ words i =
-    (i ≤ policyWords) × (length words ≡ policyWords) × ((k : ℕ) → k < i → getD words k 0 ≡ getD (padded (take used from)) k 0)
+    (i ≤ policyWords) × (length words ≡ policyWords) × ((k : ℕ) → k < i → getD words k 0 ≡ getD (padded policyWords (take used from)) k 0)
 
 abbrev μ-loop : tie.MeasureT-loop
 μ-loop words₀ from used i₀ words i = policyWords - i
@@ -56,8 +56,8 @@ returns c =
     let s = c .before .before .before .before in
     let l = c .before .loop in
     let ws = take (s .args .used) (now (s .args .from)) in
-    let size : length (padded ws) ≡ policyWords = padded-size ws (omega (arith, length-take (s .args .used) (now (s .args .from)))) in
-    ext-getD 0 (l .words) (padded ws) (omega arith) (λ k h. l .inv .2 k (omega arith))
+    let size : length (padded policyWords ws) ≡ policyWords = padded-size policyWords ws (omega (arith, length-take (s .args .used) (now (s .args .from)))) in
+    ext-getD 0 (l .words) (padded policyWords ws) (omega arith) (λ k h. l .inv .2 k (omega arith))
 
 pub fill-spec : {M : Type 1} → statement M
 fill-spec =

@@ -50,11 +50,11 @@ returns : tie.Need-returns
 returns c =
     let l = c .before .before .before .before in
     let n = l .laid .given .0 .0 in
-    let w = form-written rowLimit _ _ _ _ n (laid (l .before .before .before) (Rows n) (l .laid .given .1)) in
+    let w = form-written rowLimit rowLimit _ _ _ _ n (laid (l .before .before .before) (Rows n) (l .laid .given .1)) in
     (w .0, c .fill .ensures ∙ w .1)
 
 returns-2 : tie.Need-returns-2
-returns-2 c = form-left rowLimit _ _ _ _ (laid (c .before .before .before) Over (c .enum-told .given .1))
+returns-2 c = form-left rowLimit rowLimit _ _ _ _ (laid (c .before .before .before) Over (c .enum-told .given .1))
 
 returns-3 : tie.Need-returns-3
 unfolding Laying

@@ -16,9 +16,9 @@ use Rattle.normaliser.proofs.print_form.Tie as tie
 
 -- The normal form stands in the room.
 own : (c : tie.After-form)
-    → Held (c .before .before .before .before .before .before .args .direction) (policyRows (now (c .before .before .before .before .before .before .args .policy)))
+    → Held rowLimit rowLimit (c .before .before .before .before .before .before .args .direction) (policyRows (now (c .before .before .before .before .before .before .args .policy)))
     (c .form .given .0 .0) (c .before .before .form-of .last .1 .1 .0)
-own c = let f = c .before .before .form-of in held _ _ _ _ _ (sym (f .ensures .0) ∙ c .form .given .1) (f .ensures .1)
+own c = let f = c .before .before .form-of in held rowLimit rowLimit (omega arith) _ _ _ _ _ (sym (f .ensures .0) ∙ c .form .given .1) (f .ensures .1)
 
 form-of-requires : tie.Need-form-of-requires
 form-of-requires c κs = search needs

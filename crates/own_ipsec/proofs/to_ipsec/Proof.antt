@@ -4,8 +4,8 @@ use native.Mathlib.Omega.{arith}
 use mathlib.Core.Path.{_≡_, sym, _∙_}
 use mathlib.Core.Bool.{false}
 use borrow.Author.Tests.{not-true, not-false, lt-ltb, le-ltb}
-use Rattle.verdicts.specs.Calls.{esp, fragment, toIpsec}
-use Rattle.own_ipsec.specs.OwnLaws.{eight}
+use Rattle.verdicts.specs.Calls.{espBytes, esp, fragment, toIpsec}
+use Rattle.own_ipsec.specs.OwnLaws.{least-bytes}
 use borrow.Author.Needs.{needs}
 use Rattle.own_ipsec.proofs.to_ipsec.Statement.{statement}
 use Rattle.own_ipsec.proofs.to_ipsec.Tie as tie
@@ -34,7 +34,7 @@ returns-2 c = rw (whole (c .before .before .before), ← (c .before .before .upp
 spi-of-requires : tie.Need-spi-of-requires
 spi-of-requires c κs =
     let s = c .before .before .before .before .before .before in
-    let l : 8 ≤ c .before .least-upper .result = rw (c .before .least-upper .ensures) (eight (esp (s .args .packet))) in
+    let l : espBytes ≤ c .before .least-upper .result = rw (c .before .least-upper .ensures) (least-bytes (esp (s .args .packet))) in
     omega (arith, c .if2 .left, c .before .before .upper-length .ensures)
 
 protocol-of-requires : tie.Need-protocol-of-requires

@@ -3,7 +3,7 @@ use native.Mathlib.Omega.{arith}
 use borrow.Author.Tests.{le-leb, lt-leb, eq-eqb, ne-eqb}
 use lib.ListN.{length}
 use denote.Ref.{now}
-use Rattle.packet.specs.Header.{version, headerField}
+use Rattle.packet.specs.Header.{shortestHeader, shortestField, ipVersion, version, headerField}
 use Rattle.packet.specs.Read.{headerGood}
 use borrow.Author.Needs.{needs}
 use Rattle.packet.proofs.header_good.Statement.{statement}
@@ -11,7 +11,7 @@ use Rattle.packet.proofs.header_good.Tie as tie
 
 returns : tie.Need-returns
 unfolding headerGood
-returns c = rw (lt-leb 20 (length (now (c .before .before .args .bytes))) (omega arith))
+returns c = rw (lt-leb shortestHeader (length (now (c .before .before .args .bytes))) (omega arith))
 
 shared-slice-read-wide : tie.Need-shared-slice-read-wide
 shared-slice-read-wide c = search needs
@@ -23,7 +23,7 @@ returns-2 : tie.Need-returns-2
 unfolding headerGood
 returns-2 c =
     let p = now (c .before .before .before .before .before .args .bytes) in
-    rw (le-leb 20 (length p) (omega arith), ne-eqb (version p) 4 (λ e. omega arith))
+    rw (le-leb shortestHeader (length p) (omega arith), ne-eqb (version p) ipVersion (λ e. omega arith))
 
 header-end-requires : tie.Need-header-end-requires
 header-end-requires c κs = search needs
@@ -32,7 +32,7 @@ returns-3 : tie.Need-returns-3
 unfolding headerGood
 returns-3 c =
     let p = now (c .before .before .before .before .before .before .before .args .bytes) in
-    rw (le-leb 20 (length p) (omega arith), eq-eqb (version p) 4 (omega arith), lt-leb 5 (headerField p) (omega arith))
+    rw (le-leb shortestHeader (length p) (omega arith), eq-eqb (version p) ipVersion (omega arith), lt-leb shortestField (headerField p) (omega arith))
 
 total-length-requires : tie.Need-total-length-requires
 total-length-requires c κs = search needs
@@ -41,7 +41,7 @@ returns-4 : tie.Need-returns-4
 unfolding headerGood
 returns-4 c =
     let p = now (c .before .before .before .before .before .before .before .before .args .bytes) in
-    rw (le-leb 20 (length p) (omega arith), eq-eqb (version p) 4 (omega arith), le-leb 5 (headerField p) (omega arith))
+    rw (le-leb shortestHeader (length p) (omega arith), eq-eqb (version p) ipVersion (omega arith), le-leb shortestField (headerField p) (omega arith))
     (rw (c .before .before .header-end .ensures, c .total-length .ensures))
 
 pub header-good-spec : {M : Type 1} → statement M

@@ -9,11 +9,11 @@ use Rattle.packet.proofs.packet_at.Tie as tie
 ports-at-requires : tie.Need-ports-at-requires
 ports-at-requires c κs = search needs
 
-four-at-requires : tie.Need-four-at-requires
-four-at-requires c κs = search needs
+four-there-requires : tie.Need-four-there-requires
+four-there-requires c κs = search needs
 
-four-at-requires-2 : tie.Need-four-at-requires-2
-four-at-requires-2 c κs = search needs
+four-there-requires-2 : tie.Need-four-there-requires-2
+four-there-requires-2 c κs = search needs
 
 local-requires : tie.Need-local-requires
 local-requires c κs = search needs
@@ -46,8 +46,8 @@ returns c =
     rw (
       c .before .before .before .before .before .before .before .local .ensures,
       c .before .before .before .before .before .before .local2 .ensures,
-      c .before .before .before .before .before .before .before .before .before .four-at .ensures,
-      c .before .before .before .before .before .before .before .before .four-at2 .ensures,
+      c .before .before .before .before .before .before .before .before .before .four-there .ensures .0,
+      c .before .before .before .before .before .before .before .before .four-there2 .ensures .0,
       remote-local (a .direction) (source p) (destination p),
       c .before .before .before .before .wide .ensures .0,
       c .before .before .before .before .before .before .before .before .before .before .before .before .ports-at .ensures .0,
@@ -62,8 +62,8 @@ packet-at-spec =
     tie.close
     (tie.spec
     ports-at-requires
-    four-at-requires
-    four-at-requires-2
+    four-there-requires
+    four-there-requires-2
     local-requires
     local-requires-2
     shared-slice-read-wide

@@ -33,14 +33,14 @@ has-ports-requires c κs = search needs
 add-if3 : tie.Need-add-if3
 add-if3 c = search needs
 
-two-at-requires : tie.Need-two-at-requires
-two-at-requires c κs = search needs
+two-there-requires : tie.Need-two-there-requires
+two-there-requires c κs = search needs
 
-add-two-at : tie.Need-add-two-at
-add-two-at c = search needs
+add-two-there : tie.Need-add-two-there
+add-two-there c = search needs
 
-two-at-requires-2 : tie.Need-two-at-requires-2
-two-at-requires-2 c κs = search needs
+two-there-requires-2 : tie.Need-two-there-requires-2
+two-there-requires-2 c κs = search needs
 
 local-requires : tie.Need-local-requires
 local-requires c κs = search needs
@@ -60,8 +60,8 @@ returns-2 c =
       shown-ports (now (a .bytes)) (a .end) (omega arith) (sym (known k) ∙ c .before .before .before .before .before .if2 .taken) (omega arith),
       c .before .local .ensures,
       c .local2 .ensures,
-      c .before .before .before .two-at .ensures .0,
-      c .before .before .two-at2 .ensures .0,
+      c .before .before .before .two-there .ensures .0,
+      c .before .before .two-there2 .ensures .0,
       k .before .before .before .header-end .ensures,
     )
     (refl, ap value (remote-local (a .direction) _ _))
@@ -75,8 +75,8 @@ returns-3 c =
 add-if5 : tie.Need-add-if5
 add-if5 c = search needs
 
-two-at-requires-3 : tie.Need-two-at-requires-3
-two-at-requires-3 c κs = search needs
+two-there-requires-3 : tie.Need-two-there-requires-3
+two-there-requires-3 c κs = search needs
 
 returns-4 : tie.Need-returns-4
 returns-4 c =
@@ -84,7 +84,7 @@ returns-4 c =
     let a = k .before .before .before .before .before .before .before .args in
     rw (
       shown-type (now (a .bytes)) (a .end) (omega arith) (sym (known k) ∙ c .before .before .before .if2 .left) (omega arith) (omega arith),
-      c .two-at3 .ensures .0,
+      c .two-there3 .ensures .0,
       k .before .before .before .header-end .ensures,
     )
     (refl, refl)
@@ -113,15 +113,15 @@ ports-at-spec =
     wide-requires
     has-ports-requires
     add-if3
-    two-at-requires
-    add-two-at
-    two-at-requires-2
+    two-there-requires
+    add-two-there
+    two-there-requires-2
     local-requires
     local-requires-2
     returns-2
     returns-3
     add-if5
-    two-at-requires-3
+    two-there-requires-3
     returns-4
     returns-5
     returns-6)

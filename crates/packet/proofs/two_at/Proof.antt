@@ -1,8 +1,14 @@
--- `packet::two_at` meets its contract: the two bytes are those of the definition. Assumes nothing.
-use Rattle.packet.specs.Header.{two}
+-- `packet::two_at` meets its contract: past the end, at the last byte, or before it. Assumes nothing.
+use native.Mathlib.Omega.{arith}
+use mathlib.Core.Path.{sym}
+use denote.Ref.{now}
+use Rattle.packet.specs.Steps.{two-past, two-last}
 use borrow.Author.Needs.{needs}
 use Rattle.packet.proofs.two_at.Statement.{statement}
 use Rattle.packet.proofs.two_at.Tie as tie
+
+past-requires : tie.Need-past-requires
+past-requires c κs = search needs
 
 shared-slice-read-wide : tie.Need-shared-slice-read-wide
 shared-slice-read-wide c = search needs
@@ -10,34 +16,32 @@ shared-slice-read-wide c = search needs
 wide-requires : tie.Need-wide-requires
 wide-requires c κs = search needs
 
-add-wide : tie.Need-add-wide
-add-wide c = search needs
-
-shared-slice-read-wide-2 : tie.Need-shared-slice-read-wide-2
-shared-slice-read-wide-2 c = search needs
-
-wide-requires-2 : tie.Need-wide-requires-2
-wide-requires-2 c κs = search needs
-
 mul-result : tie.Need-mul-result
 mul-result c = search needs
 
-add-result : tie.Need-add-result
-add-result c = search needs
+two-there-requires : tie.Need-two-there-requires
+two-there-requires c κs = search needs
 
 returns : tie.Need-returns
-unfolding two
-returns c = search needs
+returns c = let a = c .before .before .before .args in (sym (two-past (now (a .bytes)) (a .i) (omega arith)), search needs)
+
+returns-2 : tie.Need-returns-2
+returns-2 c =
+    let a = c .before .before .before .before .before .args in
+    (omega (arith, two-last (now (a .bytes)) (a .i) (omega arith)), search needs)
+
+returns-3 : tie.Need-returns-3
+returns-3 c = search needs
 
 pub two-at-spec : {M : Type 1} → statement M
 two-at-spec =
     tie.close
     (tie.spec
+    past-requires
     shared-slice-read-wide
     wide-requires
-    add-wide
-    shared-slice-read-wide-2
-    wide-requires-2
     mul-result
-    add-result
-    returns)
+    two-there-requires
+    returns
+    returns-2
+    returns-3)

@@ -24,8 +24,8 @@ abbrev μ-loop : tie.MeasureT-loop
 loop-holds : tie.Need-loop-holds Inv-loop μ-loop
 loop-holds c = (search needs, search needs, search needs, rw sub-zero)
 
-mul-put-row : tie.Need-mul-put-row Inv-loop μ-loop
-mul-put-row c = search needs
+mul-put-text : tie.Need-mul-put-text Inv-loop μ-loop
+mul-put-text c = search needs
 
 line-at-requires : tie.Need-line-at-requires Inv-loop μ-loop
 line-at-requires c κs = search needs
@@ -33,8 +33,8 @@ line-at-requires c κs = search needs
 row-requires : tie.Need-row-requires Inv-loop μ-loop
 row-requires c κs = search needs
 
-put-row-requires : tie.Need-put-row-requires Inv-loop μ-loop
-put-row-requires c κs = search needs
+put-text-requires : tie.Need-put-text-requires Inv-loop μ-loop
+put-text-requires c κs = search needs
 
 next-line-requires : tie.Need-next-line-requires Inv-loop μ-loop
 next-line-requires c κs = search needs
@@ -50,11 +50,11 @@ loop-again c =
     let a = c .before .before .before .before .before .before .before .before .before .before .before .args in
     let l = c .before .before .before .before .before .before .before .before .loop in
     let s = drop (l .at) (a .body .now) in
-    let r : c .before .before .before .put-row .last .0 ≡ sets (l .rows) (l .i * 22) (textWords (entryOf (before lf s))) =
-    c .before .before .before .put-row .ensures ∙ rw (c .before .before .before .before .row .ensures, c .before .before .before .before .before .line-at .ensures) in (
+    let r : c .before .before .before .put-text .last .0 ≡ sets (l .rows) (l .i * 22) (textWords (entryOf (before lf s))) =
+    c .before .before .before .put-text .ensures ∙ rw (c .before .before .before .before .row .ensures, c .before .before .before .before .before .line-at .ensures) in (
       search needs,
       search needs,
-      omega (arith, c .before .before .before .put-row .kept .0, l .inv .2),
+      omega (arith, c .before .before .before .put-text .kept .0, l .inv .2),
       l .inv .3 ∙ written-line s (l .i) (a .count) (search needs) (l .rows) ∙ rw (r, c .next-line .ensures .1),
     )
 
@@ -74,10 +74,10 @@ put-rows-spec =
     Inv-loop
     μ-loop
     loop-holds
-    mul-put-row
+    mul-put-text
     line-at-requires
     row-requires
-    put-row-requires
+    put-text-requires
     next-line-requires
     add-i
     loop-less

@@ -3,6 +3,7 @@ use Prim.Native.Nat.{_/_}
 use native.Mathlib.Omega.{arith}
 use lib.ListN.{length}
 use Rattle.policy_text.specs.Print.{policyText}
+use Rattle.policy.specs.Words.{rowWords}
 use Rattle.policy_print.specs.PrintingLaws.{put-then, rows-most}
 use borrow.Author.Needs.{needs}
 use Rattle.policy_print.proofs.put_file.Statement.{statement}
@@ -17,7 +18,7 @@ put-text-requires c κs = search needs
 put-rows-requires : tie.Need-put-rows-requires
 put-rows-requires c κs =
     let s = c .before .before .before .before .before .before .before .before in
-    omega (arith, c .before .before .before .put-text .ensures .place, s .good, rows-most (s .args .direction) (s .args .rows .now) 0 (length (s .args .rows .now) / 22))
+    omega (arith, c .before .before .before .put-text .ensures .place, s .good, rows-most (s .args .direction) (s .args .rows .now) 0 (length (s .args .rows .now) / rowWords))
 
 same-length : tie.Need-same-length
 same-length c = search needs

@@ -56,10 +56,9 @@ use Rattle.selectors.specs.declared.Selectors.{Selectors}
 use Rattle.policy.specs.declared.Action.{Action}
 use Rattle.policy.specs.declared.Action.the-variants.{Discard}
 use Rattle.policy.specs.Policy.{matches}
-use Rattle.policy.specs.Words.{actionOf}
+use Rattle.policy.specs.Words.{actionOf, rowOf}
 use Rattle.policy.proofs.action_of.Symbol.{name as #h}
-use Rattle.row_records.specs.declared.Row.{Row}
-use Rattle.row_records.specs.Records.{rowOf}
+use Rattle.policy.specs.declared.Row.{Row}
 use Rattle.row_records.specs.SearchLaws.{noRow, searched, match-found, match-passed, match-ended}
 use Rattle.row_records.proofs.row_matches.Symbol.{name as #g}
 use Rattle.row_records.proofs.search.Key.{name as #f}
@@ -72,8 +71,8 @@ use Rattle.policy.proofs.Action.Laws as B′
 use Rattle.policy.proofs.action_of as h
 use Rattle.policy.proofs.action_of.Symbol as h-def
 use Rattle.policy.proofs.action_of.Met as h-thm
-use Rattle.row_records.proofs.Row as S
-use Rattle.row_records.proofs.Row.Laws as S′
+use Rattle.policy.proofs.Row as S
+use Rattle.policy.proofs.Row.Laws as S′
 use Rattle.row_records.proofs.row_matches as g
 use Rattle.row_records.proofs.row_matches.Symbol as g-def
 use Rattle.row_records.proofs.row_matches.Met as g-thm

@@ -84,7 +84,7 @@ returns c =
     let s = l .before .before .before .before .before .before in
     let e = c .load .ensures in (
       e .0 ∙ ap (settled rowLimit (s .args .caches)) (sym (got l .is)),
-      e .1 ∙ ap (spdAfter rowLimit (now (s .args .words))) (sym (got l .is)),
+      e .1 ∙ ap (spdAfter rowLimit rowLimit (now (s .args .words))) (sym (got l .is)),
     )
 
 returns-2 : tie.Need-returns-2

@@ -1,5 +1,6 @@
 -- `spd::fresh` meets its contract: the normal form of no rows has none. Assumes nothing.
 use mathlib.Core.Path.{_∙_}
+use Rattle.policy.specs.Words.{rowLimit}
 use Rattle.spd.specs.SpdLaws.{empty-words}
 use borrow.Author.Needs.{needs}
 use Rattle.spd.proofs.fresh.Statement.{statement}
@@ -12,7 +13,7 @@ empty-caches-requires : tie.Need-empty-caches-requires
 empty-caches-requires c κs = search needs
 
 returns : tie.Need-returns
-returns c = (c .empty-caches .ensures, c .before .write .ensures ∙ empty-words (c .before .before .before .before .before .args .address))
+returns c = (c .empty-caches .ensures, c .before .write .ensures ∙ empty-words rowLimit (c .before .before .before .before .before .args .address))
 
 pub fresh-spec : {M : Type 1} → statement M
 fresh-spec = tie.close (tie.spec write-requires empty-caches-requires returns)

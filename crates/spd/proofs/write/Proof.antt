@@ -6,7 +6,7 @@ use denote.Ref.{now}
 use lib.ListN.{length-set}
 use lib.Seq.{paste}
 use Rattle.selectors.specs.declared.Direction.the-variants.{In}
-use Rattle.policy.specs.Words.{policyWords}
+use Rattle.policy.specs.Words.{policyWords, rowLimit}
 use Rattle.spd_words.specs.Words.{rowsAt}
 use Rattle.spd.specs.StoreLaws.{held-written}
 use borrow.Author.Needs.{needs}
@@ -32,8 +32,8 @@ returns : tie.Need-returns
 returns c =
     let s = c .before .before .before .before .before .before in
     c .store2 .ensures
-    ∙ ap (λ (t : List ℕ). paste t (rowsAt In) (now (s .args .inbound)) policyWords) (c .before .before .before .store .ensures)
-    ∙ held-written (now (s .args .words)) (s .args .address) (s .args .out-count) (s .args .in-count) (now (s .args .outbound)) (now (s .args .inbound))
+    ∙ ap (λ (t : List ℕ). paste t (rowsAt rowLimit In) (now (s .args .inbound)) policyWords) (c .before .before .before .store .ensures)
+    ∙ held-written rowLimit (now (s .args .words)) (s .args .address) (s .args .out-count) (s .args .in-count) (now (s .args .outbound)) (now (s .args .inbound))
     (simp length-set at (c .before .before .before .before .before .store-arg .given .0 .1))
     (search needs)
     (search needs)

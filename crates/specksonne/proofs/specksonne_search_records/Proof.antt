@@ -47,8 +47,8 @@ use Rattle.selectors.specs.declared.Direction.{Direction}
 use Rattle.selectors.specs.declared.Selectors.{Selectors}
 use Rattle.policy.specs.declared.Action.{Action}
 use Rattle.policy.specs.Policy.{orderedSearch}
-use Rattle.row_records.specs.declared.Row.{Row}
-use Rattle.row_records.specs.Records.{rowOf}
+use Rattle.policy.specs.declared.Row.{Row}
+use Rattle.policy.specs.Words.{rowOf}
 use Rattle.abi.specs.Words.{directionFrom, selectorsFrom, actionKind, actionNumber}
 use Rattle.selectors.proofs.Direction as D
 use Rattle.selectors.proofs.Direction.Laws as D′
@@ -56,7 +56,7 @@ use Rattle.selectors.proofs.Selectors as P
 use Rattle.selectors.proofs.Selectors.Laws as P′
 use Rattle.policy.proofs.Action as B
 use Rattle.policy.proofs.Action.Laws as B′
-use Rattle.row_records.proofs.Row as S
+use Rattle.policy.proofs.Row as S
 use Rattle.row_records.proofs.search as find
 use Rattle.row_records.proofs.search.Symbol as find-def
 use Rattle.row_records.proofs.search.Symbol.{name as #find}
