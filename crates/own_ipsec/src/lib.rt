@@ -8,6 +8,7 @@ ghost use Rattle.sad.specs.Pairs.{pairs};
 ghost use Rattle.verdicts.specs.Calls.{espProtocol, ahProtocol, espBytes, forGateway, fragment, esp, leastUpper, spiOf, toIpsec};
 ghost use Rattle.own_ipsec.specs.Own.{ownAnswer};
 use packet::Packet;
+use sad::TABLE_WORDS;
 use selectors::Value;
 use verdicts::Verdict;
 
@@ -110,7 +111,7 @@ fn spi_of(bytes: &[u8], packet: Packet) -> u32
 }
 
 // What becomes of AH or ESP for the gateway.
-fn to_ipsec(table: &[u64; 1536], bytes: &[u8], packet: Packet) -> Verdict
+fn to_ipsec(table: &[u64; TABLE_WORDS], bytes: &[u8], packet: Packet) -> Verdict
     requires { ⌜ number (packet .selectors .protocol) ≡ cond (esp packet) espProtocol ahProtocol ⌝ }
     ensures { λ r. ⌜ r ≡ toIpsec (pairs (now (table .entry))) (now (bytes .entry)) packet ⌝ }
 {
@@ -129,7 +130,7 @@ fn to_ipsec(table: &[u64; 1536], bytes: &[u8], packet: Packet) -> Verdict
 }
 
 // The answer to AH or ESP for the gateway, whose own address is given.
-pub fn answer(address: u64, table: &[u64; 1536], bytes: &[u8], packet: Packet) -> Own
+pub fn answer(address: u64, table: &[u64; TABLE_WORDS], bytes: &[u8], packet: Packet) -> Own
     ensures { λ r. ⌜ r ≡ ownAnswer address (pairs (now (table .entry))) (now (bytes .entry)) packet ⌝ }
 {
     if !for_gateway(address, packet) {

@@ -3,10 +3,9 @@ use Prim.Native.Nat.{ℕ, zero, suc, _*_}
 use mathlib.Core.Path.{_≡_, refl}
 use mathlib.Core.List.{List, []}
 use lib.ListN.{getD, replicate}
-use Rattle.sad.specs.Pairs.{pairsFrom, pairs, placeCount, placeWords}
+use Rattle.sad.specs.Pairs.{pairsFrom, pairs, placeCount, placeWords, tableWords}
 use Rattle.spd.specs.declared.Caches.{Caches}
-use Rattle.cache_in_place.specs.Lent.{cacheFrom}
-use Rattle.specksonne.specs.Sizes.{tableSize}
+use Rattle.spd_cache.specs.Lent.{cacheFrom}
 
 abbrev pub cachesFrom : List ℕ → List ℕ → Caches
 cachesFrom out ins = record { outbound = cacheFrom out; inbound = cacheFrom ins }
@@ -23,5 +22,5 @@ no-pair n i zero = refl
 no-pair n i (suc k) = rw (zeros n (i * placeWords)) (no-pair n (suc i) k)
 
 -- 'A fresh gate holds … no pair.'
-pub fresh-pairs : pairs (replicate tableSize 0) ≡ []
-fresh-pairs = no-pair tableSize 0 placeCount
+pub fresh-pairs : pairs (replicate tableWords 0) ≡ []
+fresh-pairs = no-pair tableWords 0 placeCount
