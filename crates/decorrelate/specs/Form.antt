@@ -11,8 +11,7 @@ use Rattle.selectors.specs.declared.Direction.the-variants.{Out, In}
 use Rattle.normal_form.specs.Search.{Row}
 use Rattle.policy.specs.declared.Action.{Action}
 use Rattle.policy.specs.Policy.{PolicyRow, policyNormalForm}
-use Rattle.policy.specs.Words.{actionWord, rowWords}
-use Rattle.policy_text.specs.RowWords.{rangesWords}
+use Rattle.policy.specs.Words.{actionWord, rowWords, wordsWith, wordsOfAll}
 use Rattle.layout.specs.Laid.{roomFor}
 use Rattle.layout.specs.declared.Laid.{Laid}
 use Rattle.layout.specs.declared.Laid.the-variants.{Rows, Over, NoRoom}
@@ -25,11 +24,10 @@ form d rs = policyNormalForm ipv4Sizes d rs
 
 -- The words of a row: 0, which a policy reads as a row for both directions, the action's word, and the ranges.
 abbrev pub formRowWords : Row Action → List ℕ
-formRowWords r = 0 ∷ actionWord (r .leaf) ∷ rangesWords (r .ranges)
+formRowWords r = wordsWith 0 (actionWord (r .leaf)) (r .ranges)
 
-unfoldable pub formWords : List (Row Action) → List ℕ
-formWords [] = []
-formWords (r ∷ L) = formRowWords r ++ formWords L
+abbrev pub formWords : List (Row Action) → List ℕ
+formWords L = wordsOfAll formRowWords L
 
 -- What laying out a normal form leaves. The rest of the room, and all of it where the answer is `Over`, is left open: it is scratch.
 pub record FormOutcome (limit : ℕ) (d : Direction) (rs : List PolicyRow) (room room′ : List ℕ) (r : Laid) : Type 0 where

@@ -14,4 +14,3 @@ pub mod AlikeLaws
 pub mod Turn
 pub mod Progress
 pub mod StretchesLaws
-pub mod NormalRows

@@ -7,13 +7,12 @@ use lib.Dec.{leb}
 use lib.ListN.{length}
 use borrow.Author.Tests.{le-leb, lt-leb}
 use Rattle.selectors.specs.declared.Direction.{Direction}
-use Rattle.policy.specs.Policy.{PolicyRow}
+use Rattle.policy.specs.Policy.{PolicyRow, bothWays}
 use Rattle.policy.specs.Words.{policyRows}
 use Rattle.policy_text.specs.Print.{policyText, toward}
 use Rattle.policy_print.specs.Printing.{printed, printedIn, printedRoom}
 use Rattle.policy_print.specs.declared.Printed.{Printed}
 use Rattle.policy_print.specs.declared.Printed.the-variants.{Bytes, NoRoom as NoBytes}
-use Rattle.layout.specs.NormalRows.{bothWays}
 use Rattle.normaliser.specs.declared.Normalised.{Normalised}
 use Rattle.normaliser.specs.declared.Normalised.the-variants.{Printed as Done, TooLarge, NoRoom as Short}
 use Rattle.decorrelate.specs.Form.{form, formWords}

@@ -1,5 +1,5 @@
 -- The fields of an IPv4 header (RFC 791), of any list of bytes. Assumes nothing: these are definitions.
-use Prim.Native.Nat.{ℕ, _+_, _*_, _/_, _%_}
+use Prim.Native.Nat.{ℕ, _+_, _*_, _/_, _%_, _<_}
 use mathlib.Core.Bool.{Bool}
 use mathlib.Core.List.{List}
 use lib.Dec.{eqb}
@@ -8,6 +8,10 @@ use lib.ListN.{getD}
 -- A byte that is not there counts as 0; no definition below looks at one.
 abbrev pub byte : List ℕ → ℕ → ℕ
 byte p i = getD p i 0
+
+-- A list of bytes, as every lent packet is.
+abbrev pub Bytes : List ℕ → Type 0
+Bytes p = (i : ℕ) → byte p i < 256
 
 -- Two bytes and four bytes as a number, the first byte the highest.
 unfoldable pub two : List ℕ → ℕ → ℕ

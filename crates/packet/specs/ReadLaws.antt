@@ -15,7 +15,7 @@ use Rattle.selectors.specs.ValueLaws.{number-lower}
 use Rattle.selectors.specs.declared.Selectors.{Selectors}
 use Rattle.selectors.specs.declared.Direction.{Direction}
 use Rattle.selectors.specs.declared.Direction.the-variants.{Out, In}
-use Rattle.packet.specs.Header.{byte, two, four, totalLengthAt, flagsAt, protocolAt, sourceAt, destinationAt, shortestHeader, headerEnd, totalLength, fragmentOffset, protocol, source, destination}
+use Rattle.packet.specs.Header.{Bytes, byte, two, four, totalLengthAt, flagsAt, protocolAt, sourceAt, destinationAt, shortestHeader, headerEnd, totalLength, fragmentOffset, protocol, source, destination}
 use Rattle.packet.specs.Read.{Shown, ports, typeAndCode, nothing, portsBytes, destinationPortAt, typeAndCodeBytes, shown, headerGood, readable, triggerReadable, hasPorts, isIcmp, local, remote, localPort, remotePort, value, packetOf, readPacket, readTrigger}
 use Rattle.packet.specs.Steps.{Inside, good-header, good-field, good-upper, ports-not-icmp, shown-each, shown-later}
 use Rattle.packet.specs.declared.Packet.{Packet}
@@ -231,10 +231,6 @@ pub later-shows-no-port : (d : Direction) (p : List ℕ) (k : Packet) → Shows 
 later-shows-no-port d p k s n =
     let e = shown-later p (s .end) (λ z. n (ap (λ (j : Packet). j .offset) (sym (s .is)) ∙ z)) in
     rw (sym (s .is), e) (refl, refl)
-
--- All elements of the list are bytes (one that is not there counts as 0).
-abbrev pub Bytes : List ℕ → Type 0
-Bytes p = (i : ℕ) → byte p i < 256
 
 two-below : (p : List ℕ) → Bytes p → (i : ℕ) → two p i < 65536
 unfolding two

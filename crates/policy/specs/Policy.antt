@@ -54,3 +54,7 @@ asRow d r = record { direction = Only d; action = r .leaf; ranges = r .ranges }
 
 abbrev pub asPolicy : Direction → List (LeafRow Action) → List PolicyRow
 asPolicy d rows = map (asRow d) rows
+
+-- A row of a normal form as a row for both directions, as the words of a normal form are read.
+abbrev pub bothWays : LeafRow Action → PolicyRow
+bothWays r = record { direction = Both; action = r .leaf; ranges = r .ranges }

@@ -2,7 +2,7 @@
 use Prim.Native.Nat.{ℕ}
 use mathlib.Core.Path.{_≡_, refl, sym, _∙_, ap}
 use mathlib.Core.Bool.{Bool, true, false, cond, _&&_}
-use mathlib.Core.List.{List, [], _∷_}
+use mathlib.Core.List.{List, [], _∷_, map}
 use mathlib.Core.Logic.{_↔_}
 use Rattle.selectors.specs.declared.Direction.{Direction}
 use Rattle.selectors.specs.declared.Direction.the-variants.{Out, In}
@@ -13,7 +13,7 @@ use Rattle.policy.specs.declared.Action.{Action}
 use Rattle.policy.specs.declared.Action.the-variants.{Discard}
 use Rattle.policy.specs.declared.RowDirection.the-variants.{Only}
 use Rattle.policy.specs.Action.{action-≟}
-use Rattle.policy.specs.Policy.{PolicyRow, appliesTo, matches, orderedSearch, policyNormalForm, asRow, asPolicy}
+use Rattle.policy.specs.Policy.{PolicyRow, appliesTo, matches, orderedSearch, policyNormalForm, asRow, asPolicy, bothWays}
 
 -- The first row either gives the answer or is passed over.
 pub search-hit : (d : Direction) (r : PolicyRow) (rs : List PolicyRow) (vs : List ℕ) → matches d r vs ≡ true
@@ -52,7 +52,19 @@ unfolding orderedSearch matches find
 search-as-policy d [] vs = refl
 search-as-policy d (r ∷ rs) vs = rw (own-direction d) (ap (cond (holds (r .ranges) vs) (r .leaf)) (search-as-policy d rs vs))
 
+-- The ordered search of rows for both directions, in whichever direction is asked, is the search of the rows.
+search-both-ways : (asked : Direction) (rows : List (Row Action)) (vs : List ℕ) → orderedSearch asked (map bothWays rows) vs ≡ find Discard rows vs
+unfolding orderedSearch matches find
+search-both-ways asked [] vs = refl
+search-both-ways asked (r ∷ rs) vs = ap (cond (holds (r .ranges) vs) (r .leaf)) (search-both-ways asked rs vs)
+
 module _ (sizes : List ℕ) (d : Direction) where
+  -- So searching the words of a normal form, in whichever direction is asked, is searching the policy in the direction of the normal form.
+  pub searching-both-ways : (rows : List PolicyRow) (asked : Direction) (vs : List ℕ) → Combination sizes vs
+      → orderedSearch asked (map bothWays (policyNormalForm sizes d rows)) vs ≡ orderedSearch d rows vs
+  searching-both-ways rows asked vs ok =
+      search-both-ways asked (policyNormalForm sizes d rows) vs ∙ search-normal-form action-≟ Discard sizes (orderedSearch d rows) vs ok
+
   -- Demand 3 for rows. 'For every combination, searching either normal form for that way gives the action that searching its own policy gives.'
   pub searching-normal-form : (rows : List PolicyRow) (vs : List ℕ) → Combination sizes vs
       → orderedSearch d (asPolicy d (policyNormalForm sizes d rows)) vs ≡ orderedSearch d rows vs

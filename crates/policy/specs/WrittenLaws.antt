@@ -1,14 +1,14 @@
 -- Rows written as words and read again. Assumes nothing.
-use Prim.Native.Nat.{ℕ, suc, _+_, _*_, _/_}
+use Prim.Native.Nat.{ℕ, suc, _+_, _*_, _/_, _≤_}
 use native.Mathlib.Omega.{arith}
 use native.Mathlib.Nat.{add-assoc, add-zero}
 use mathlib.Core.Path.{_≡_, refl, sym, ap, _∙_}
 use mathlib.Core.List.{List, [], _∷_, _++_, map, append-assoc, append-nil}
-use lib.ListN.{length, drop, length-append}
-use lib.Seq.{getD-drop, drop-drop}
+use lib.ListN.{length, getD, take, drop, length-append}
+use lib.Seq.{getD-drop, drop-cons, drop-drop}
 use Rattle.selectors.specs.Range.{Range}
-use Rattle.selectors.specs.Words.{fieldCount, rangesWords, valueAt, wordsOfValue, wordsOfRanges}
-use Rattle.selectors.specs.WordsLaws.{value-written}
+use Rattle.selectors.specs.Words.{fieldCount, rangesWords, valueAt, rangesAt, wordsOfValue, wordsOfRanges}
+use Rattle.selectors.specs.WordsLaws.{value-written, AllWords, five-exact}
 use Rattle.selectors.specs.declared.Direction.{Direction}
 use Rattle.selectors.specs.declared.Direction.the-variants.{Out, In}
 use Rattle.policy.specs.declared.RowDirection.{RowDirection}
@@ -61,6 +61,17 @@ five-words a b c d e = refl
 
 pub ranges-words : (rs : List Range) → length rs ≡ fieldCount → length (wordsOfRanges rs) ≡ rangesWords
 ranges-words rs f = five-ranges (λ (qs : List Range). length (wordsOfRanges qs) ≡ rangesWords) five-words rs f
+
+-- A row's words, as they stand, are those of its first two words and its ranges.
+pub row-exact : (ws : List ℕ) (at : ℕ) → AllWords ws → at + rowWords ≤ length ws
+    → take rowWords (drop at ws) ≡ wordsWith (getD ws at 0) (getD ws (at + 1) 0) (rangesAt ws (at + 2))
+row-exact ws at fit h =
+    let e0 : suc at ≡ at + 1 = omega arith in
+    let e1 : suc (at + 1) ≡ at + 2 = omega arith in
+    let d0 : drop at ws ≡ getD ws at 0 ∷ drop (at + 1) ws = rw e0 at (drop-cons ws at 0 (omega arith)) in
+    let d1 : drop (at + 1) ws ≡ getD ws (at + 1) 0 ∷ drop (at + 2) ws = rw e1 at (drop-cons ws (at + 1) 0 (omega arith)) in
+    ap (λ (l : List ℕ). take rowWords l) (d0 ∙ ap (λ (l : List ℕ). getD ws at 0 ∷ l) d1)
+    ∙ ap (λ (l : List ℕ). getD ws at 0 ∷ getD ws (at + 1) 0 ∷ l) (sym (five-exact ws fit (at + 2) (omega arith)))
 
 -- Things that are rows, by two words and the ranges of each: written one after the other from the row i on, they are read there.
 module _ (A : Type 0) (first second : A → ℕ) (ranges : A → List Range) where

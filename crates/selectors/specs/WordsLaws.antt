@@ -1,5 +1,5 @@
 -- Laws of values and ranges as words: missing words, and words read from what was written. Assumes nothing.
-use Prim.Native.Nat.{ℕ, _+_, _-_, _*_, _/_, _%_, _^_, _≤_, _<_}
+use Prim.Native.Nat.{ℕ, zero, suc, _+_, _-_, _*_, _/_, _%_, _^_, _≤_, _<_}
 use native.Mathlib.Omega.{arith}
 use native.Mathlib.Decide.{decLe}
 use native.Mathlib.Nat.{div-add-mod'}
@@ -7,15 +7,16 @@ use native.Mathlib.Numerals.{add-one}
 use mathlib.Core.Path.{_≡_, refl, sym, ap, _∙_}
 use mathlib.Core.List.{List, [], _∷_, _++_, append-assoc}
 use lib.Dec.{leb}
-use lib.Seq.{set-out, sets}
-use lib.ListN.{length, getD, set, length-set, length-append, List·getD-eq-default}
+use lib.Seq.{set-out, sets, drop-cons, drop-drop, take-add}
+use lib.ListN.{length, getD, take, drop, set, length-set, length-append, List·getD-eq-default}
 use borrow.Author.Tests.{le-leb, lt-leb}
 use Rattle.selectors.specs.Range.{Range, contains}
 use Rattle.selectors.specs.Ranges.{fromTo, endsRange, fiveRanges}
+use Rattle.selectors.specs.HeldLaws.{all-ranges}
 use Rattle.selectors.specs.StoresLaws.{sets-more}
 use Rattle.selectors.specs.Value.{number, combination}
 use Rattle.selectors.specs.ValueLaws.{Words}
-use Rattle.selectors.specs.Words.{valueAt, endsAt, rangeAt, rangesAt, valuesOf, selectorsOf, wordsOfValue, wordsOfRange, wordsOfRanges, wordsOfSelectors}
+use Rattle.selectors.specs.Words.{fieldCount, rangesWords, valueAt, endsAt, rangeAt, rangesAt, rangesFrom, valuesOf, selectorsOf, wordsOfValue, wordsOfRange, wordsOfRanges, wordsOfSelectors}
 use Rattle.selectors.specs.declared.Ends.{Ends}
 use Rattle.selectors.specs.declared.Ranges.{Ranges}
 use Rattle.selectors.specs.declared.Selectors.{Selectors}
@@ -116,3 +117,45 @@ selector-values s = refl
 pub selectors-values : (ws : List ℕ) → combination (selectorsOf ws) ≡ valuesOf ws
 unfolding selectorsOf
 selectors-values ws = refl
+
+-- Every number of a list is a word.
+abbrev pub AllWords : List ℕ → Type 0
+AllWords ws = (i : ℕ) → getD ws i 0 < 2 ^ 64
+
+-- Then the words of what stands there are those that stand there: of a value, of a range, and of n ranges from the field f on.
+module _ (ws : List ℕ) (fit : AllWords ws) where
+  value-exact : (i : ℕ) → wordsOfValue (number (valueAt ws i)) ≡ getD ws i 0 ∷ getD ws (i + 1) 0 ∷ []
+  unfolding valueAt
+  value-exact i = words-of-value (valueAt ws i) (record { upper-fits = fit i; lower-fits = fit (i + 1) })
+
+  four-words : (i : ℕ) → i + 4 ≤ length ws → take 4 (drop i ws) ≡ getD ws i 0 ∷ getD ws (i + 1) 0 ∷ getD ws (i + 2) 0 ∷ getD ws (i + 3) 0 ∷ []
+  four-words i h =
+      let e0 : suc i ≡ i + 1 = omega arith in
+      let e1 : suc (i + 1) ≡ i + 2 = omega arith in
+      let e2 : suc (i + 2) ≡ i + 3 = omega arith in
+      let d0 : drop i ws ≡ getD ws i 0 ∷ drop (i + 1) ws = rw e0 at (drop-cons ws i 0 (omega arith)) in
+      let d1 : drop (i + 1) ws ≡ getD ws (i + 1) 0 ∷ drop (i + 2) ws = rw e1 at (drop-cons ws (i + 1) 0 (omega arith)) in
+      let d2 : drop (i + 2) ws ≡ getD ws (i + 2) 0 ∷ drop (i + 3) ws = rw e2 at (drop-cons ws (i + 2) 0 (omega arith)) in
+      let d3 = drop-cons ws (i + 3) 0 (omega arith) in
+      ap (λ (l : List ℕ). take 4 l)
+      (d0 ∙ ap (λ (l : List ℕ). getD ws i 0 ∷ l) (d1 ∙ ap (λ (l : List ℕ). getD ws (i + 1) 0 ∷ l) (d2 ∙ ap (λ (l : List ℕ). getD ws (i + 2) 0 ∷ l) d3)))
+
+  range-exact : (i : ℕ) → i + 4 ≤ length ws → wordsOfRange (rangeAt ws i) ≡ take 4 (drop i ws)
+  range-exact i h =
+      let e : i + 2 + 1 ≡ i + 3 = omega arith in
+      rw (value-exact i, value-exact (i + 2), e, four-words i h)
+
+  ranges-exact : (i f n : ℕ) → i + 4 * f + 4 * n ≤ length ws → wordsOfRanges (rangesFrom ws i f n) ≡ take (4 * n) (drop (i + 4 * f) ws)
+  unfolding rangesFrom
+  ranges-exact i f zero h = refl
+  ranges-exact i f (suc n) h =
+      let k : 4 * suc n ≡ 4 + 4 * n = omega arith in
+      let j : i + 4 * (f + 1) ≡ i + 4 * f + 4 = omega arith in
+      let more : wordsOfRanges (rangesFrom ws i (f + 1) n) ≡ take (4 * n) (drop (i + 4 * f + 4) ws) = rw j at (ranges-exact i (f + 1) n (omega arith)) in
+      ap (λ (l : List ℕ). l ++ wordsOfRanges (rangesFrom ws i (f + 1) n)) (range-exact (i + 4 * f) (omega arith))
+      ∙ rw (more, k, take-add, drop-drop)
+
+  pub five-exact : (i : ℕ) → i + rangesWords ≤ length ws → wordsOfRanges (rangesAt ws i) ≡ take rangesWords (drop i ws)
+  five-exact i h =
+      let e : i + 4 * 0 ≡ i = omega arith in
+      ap wordsOfRanges (sym (all-ranges ws i)) ∙ ranges-exact i 0 fieldCount (omega arith) ∙ rw e

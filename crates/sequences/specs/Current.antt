@@ -7,12 +7,11 @@ use mathlib.Core.Option.{Option, none, some}
 use Rattle.selectors.specs.declared.Direction.{Direction}
 use Rattle.selectors.specs.declared.Direction.the-variants.{Out, In}
 use Rattle.packet.specs.Read.{readPacket}
-use Rattle.packet.specs.ReadLaws.{Bytes}
+use Rattle.packet.specs.Header.{Bytes}
 use Rattle.packet.specs.declared.Reading.{Reading}
 use Rattle.packet.specs.declared.Reading.the-variants.{Readable, Unreadable}
-use Rattle.policy.specs.Policy.{PolicyRow, matches, orderedSearch}
+use Rattle.policy.specs.Policy.{PolicyRow, matches, orderedSearch, bothWays}
 use Rattle.policy_text.specs.Format.{Policy, refused, rows, parsePolicy}
-use Rattle.layout.specs.NormalRows.{bothWays}
 use Rattle.decorrelate.specs.Form.{form}
 use Rattle.spd_cache.specs.Cache.{slotCount}
 use Rattle.spd_cache.specs.SlotLaws.{replaced}

@@ -13,7 +13,7 @@ use Rattle.selectors.specs.declared.Direction.{Direction}
 use Rattle.selectors.specs.declared.Direction.the-variants.{Out, In}
 use Rattle.normal_form.specs.Search.{Combination}
 use Rattle.packet.specs.Read.{readPacket, readTrigger}
-use Rattle.packet.specs.ReadLaws.{Bytes}
+use Rattle.packet.specs.Header.{Bytes}
 use Rattle.packet.specs.declared.Packet.{Packet}
 use Rattle.packet.specs.declared.Reading.the-variants.{Readable}
 use Rattle.policy.specs.declared.Action.the-variants.{Bypass, Protect}
@@ -30,7 +30,8 @@ use Rattle.answers.specs.Answers.{out-0, in-0, sa-1, out-2, out-3}
 use Rattle.sequences.specs.Sequence.{Gateway, Call, goesOut, comesIn}
 use Rattle.sequences.specs.Current.{current, livePairs}
 use Rattle.sequences.specs.Invariant.{cacheOf}
-use Rattle.sequences.specs.First.{FirstIs, first-bypass, first-protect}
+use Rattle.sequences.specs.First.{FirstIs}
+use Rattle.sequences.specs.FirstLaws.{first-bypass, first-protect}
 use Rattle.sequences.specs.Live.{pairs-live}
 use Rattle.sequences.specs.NextAnswer.{now, cached-search, outbound-answer, inbound-answer, from-sa-alike}
 

@@ -12,12 +12,11 @@ use Rattle.selectors.specs.declared.Direction.the-variants.{Out, In}
 use Rattle.packet.specs.Read.{readPacket}
 use Rattle.packet.specs.declared.Reading.{Reading}
 use Rattle.packet.specs.declared.Reading.the-variants.{Readable, Unreadable}
-use Rattle.policy.specs.Policy.{PolicyRow}
+use Rattle.policy.specs.Policy.{PolicyRow, bothWays}
 use Rattle.policy.specs.Words.{policyRows}
 use Rattle.policy_text.specs.Format.{Policy, refused, rows, parsePolicy}
 use Rattle.policy_text.specs.declared.Parsed.{Parsed}
 use Rattle.policy_text.specs.declared.Parsed.the-variants.{Rows, NotHeader as NoHeader, NotEnded as NoEnd, TooMany as OverRows, BadRow as Bad, NoRoom}
-use Rattle.layout.specs.NormalRows.{bothWays}
 use Rattle.decorrelate.specs.Form.{form}
 use Rattle.decorrelate.specs.FormLaws.{form-words-rows}
 use Rattle.spd_cache.specs.declared.Cache.{Cache}

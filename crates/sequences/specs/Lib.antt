@@ -5,4 +5,5 @@ pub mod Live
 pub mod Slots
 pub mod NextAnswer
 pub mod First
+pub mod FirstLaws
 pub mod Demand2

@@ -11,16 +11,16 @@ use Rattle.selectors.specs.declared.Direction.the-variants.{Out, In}
 use Rattle.normal_form.specs.Search.{Row as LeafRow, Combination}
 use Rattle.normal_form.specs.Shape.{normal-form-row}
 use Rattle.packet.specs.Read.{readPacket, readTrigger, triggerOf}
-use Rattle.packet.specs.ReadLaws.{Bytes, packet-shows, read-in-fields}
+use Rattle.packet.specs.Header.{Bytes}
+use Rattle.packet.specs.ReadLaws.{packet-shows, read-in-fields}
 use Rattle.packet.specs.declared.Packet.{Packet}
 use Rattle.packet.specs.declared.Reading.{Reading}
 use Rattle.packet.specs.declared.Reading.the-variants.{Readable, Unreadable}
 use Rattle.policy.specs.declared.Action.{Action}
 use Rattle.policy.specs.declared.Action.the-variants.{Discard, Bypass, Protect}
 use Rattle.policy.specs.Action.{action-≟}
-use Rattle.policy.specs.Policy.{PolicyRow, matches, orderedSearch}
+use Rattle.policy.specs.Policy.{PolicyRow, matches, orderedSearch, bothWays}
 use Rattle.policy.specs.Words.{policyRows}
-use Rattle.layout.specs.NormalRows.{bothWays}
 use Rattle.decorrelate.specs.Form.{form}
 use Rattle.spd_cache.specs.Cache.{cached, lookedUp}
 use Rattle.spd_cache.specs.SlotLaws.{lookup-action}

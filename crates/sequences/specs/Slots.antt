@@ -10,9 +10,8 @@ use Rattle.selectors.specs.declared.Direction.{Direction}
 use Rattle.selectors.specs.declared.Direction.the-variants.{Out, In}
 use Rattle.policy.specs.declared.Found.{Found}
 use Rattle.policy.specs.declared.Found.the-variants.{Row, Nothing}
-use Rattle.policy.specs.Policy.{PolicyRow, matches, matchFrom}
+use Rattle.policy.specs.Policy.{PolicyRow, matches, matchFrom, bothWays}
 use Rattle.policy.specs.Words.{rowAt, rowsFrom, rowWords, policyRows}
-use Rattle.layout.specs.NormalRows.{bothWays}
 use Rattle.decorrelate.specs.Form.{form}
 use Rattle.spd_cache.specs.declared.Cache.{Cache}
 use Rattle.spd_cache.specs.Cache.{slotCount, emptyCache, inUse, cached, turn, stored, lookedUp}

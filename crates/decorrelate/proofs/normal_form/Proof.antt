@@ -1,5 +1,6 @@
 -- `decorrelate::normal_form` meets its contract: a normal form is the difference from the policy without rows. Assumes nothing.
 use mathlib.Core.Path.{refl}
+use native.Mathlib.Omega.{arith}
 use denote.Ref.{now}
 use borrow.Author.Needs.{needs}
 use Rattle.policy.specs.Words.{rowLimit}
@@ -19,7 +20,8 @@ same-length c = search needs
 returns : tie.Need-returns
 returns c =
     let a = c .before .before .before .before .before .before .before .args in
-    form-outcome rowLimit (a .direction) (now (a .rows)) _ (now (a .room)) _ _ (search needs) (c .before .before .layout .ensures) (ipv4-highest _ refl)
+    let fits = c .slice-known2 .given in
+    form-outcome rowLimit (a .direction) (now (a .rows)) _ (now (a .room)) _ _ (λ i. omega (arith, fits i)) (search needs) (c .before .before .layout .ensures) (ipv4-highest _ refl)
 
 pub normal-form-spec : {M : Type 1} → statement M
 normal-form-spec =

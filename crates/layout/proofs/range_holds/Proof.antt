@@ -1,7 +1,7 @@
 -- `layout::range_holds` meets its contract: the range is made of the words. Assumes nothing.
 use mathlib.Core.Path.{_∙_}
 use borrow.Author.Needs.{needs}
-use Rattle.policy.specs.WordsLaws.{values-hold}
+use Rattle.selectors.specs.WordsLaws.{ends-hold}
 use Rattle.layout.proofs.range_holds.Statement.{statement}
 use Rattle.layout.proofs.range_holds.Tie as tie
 
@@ -18,7 +18,7 @@ holds-requires : tie.Need-holds-requires
 holds-requires c κs = search needs
 
 returns : tie.Need-returns
-returns c = c .holds .ensures ∙ values-hold _ _ _ _ _ (c .before .before .value-at .ensures) (c .before .value-at2 .ensures)
+returns c = c .holds .ensures ∙ ends-hold _ _ _ _ _ (c .before .before .value-at .ensures) (c .before .value-at2 .ensures)
 
 pub range-holds-spec : {M : Type 1} → statement M
 range-holds-spec =
