@@ -4,19 +4,17 @@ ghost use Prim.Native.Nat.{_+_, _-_, _≤_};
 ghost use mathlib.Core.Bool.{cond};
 ghost use lib.Dec.{eqb};
 ghost use Rattle.selectors.specs.Value.{number};
-ghost use Rattle.sad.specs.Pairs.{pairs};
-ghost use Rattle.verdicts.specs.Calls.{espProtocol, ahProtocol, espBytes, forGateway, fragment, esp, leastUpper, spiOf, toIpsec};
+ghost use Rattle.sad.specs.Pairs.{espProtocol, ahProtocol, pairs};
+ghost use Rattle.verdicts.specs.Calls.{espBytes, forGateway, fragment, esp, leastUpper, spiOf, toIpsec};
 ghost use Rattle.own_ipsec.specs.Own.{ownAnswer};
 use packet::Packet;
+use sad::AH;
+use sad::ESP;
 use sad::TABLE_WORDS;
 use selectors::Value;
 use verdicts::Verdict;
 
-// The numbers of `Calls.antt`: protocols, least upper parts, where AH's SPI stands.
-const ESP: u64 = 50;
-
-const AH: u64 = 51;
-
+// The numbers of `Calls.antt`: least upper parts, where AH's SPI stands.
 const ESP_BYTES: usize = 8;
 
 const AH_BYTES: usize = 12;

@@ -42,9 +42,15 @@ placeWords = headWords + rangesWords
 abbrev pub tableWords : ℕ
 tableWords = placeCount * placeWords
 
--- ESP or AH.
+-- The protocols: ESP or AH.
+abbrev pub espProtocol : ℕ
+espProtocol = 50
+
+abbrev pub ahProtocol : ℕ
+ahProtocol = 51
+
 abbrev pub ipsec : ℕ → Bool
-ipsec protocol = eqb protocol 50 || eqb protocol 51
+ipsec protocol = eqb protocol espProtocol || eqb protocol ahProtocol
 
 -- The pair at a place, and whether it is live: whether its protocol is ESP or AH.
 unfoldable pub pairAt : List ℕ → ℕ → Pair

@@ -36,9 +36,10 @@ pub const PLACE_WORDS: usize = HEAD_WORDS + RANGES_WORDS;
 
 pub const TABLE_WORDS: usize = PLACES * PLACE_WORDS;
 
-const ESP: u64 = 50;
+// The protocols of a pair.
+pub const ESP: u64 = 50;
 
-const AH: u64 = 51;
+pub const AH: u64 = 51;
 
 // The first SPI that is not reserved, and the highest N of protect-N.
 const FIRST_SPI: u32 = 256;
