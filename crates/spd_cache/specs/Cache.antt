@@ -1,6 +1,6 @@
 -- The cache of one direction (document 01, 'Cache and associations'). Assumes nothing: these are definitions.
 use Prim.Native.Nat.{ℕ, _+_, _*_, _%_, min, max}
-use mathlib.Core.List.{List}
+use mathlib.Core.List.{List, _∷_, _++_}
 use lib.ListN.{getD, take, drop, replicate}
 use lib.Seq.{paste}
 use Rattle.selectors.specs.declared.Direction.{Direction}
@@ -72,3 +72,7 @@ tried c rows Nothing found = missed c rows found
 -- A lookup: the slots first, and then the rows.
 unfoldable pub lookedUp : Cache → List ℕ → Direction → List ℕ → Looked
 lookedUp c rows d vs = tried c rows (matchFrom 0 d (cached c) vs) (matchFrom 0 d (policyRows rows) vs)
+
+-- The rows with the row of one slot replaced; the slot may be the next after the last.
+abbrev pub replaced : List PolicyRow → ℕ → PolicyRow → List PolicyRow
+replaced rs slot r = take slot rs ++ r ∷ drop (slot + 1) rs

@@ -20,7 +20,7 @@ use Rattle.policy.specs.WordsLaws.{actionFound, search-match}
 use Rattle.policy.specs.RowsLaws.{row-same, rows-same, front-rows}
 use Rattle.spd_cache.specs.declared.Cache.{Cache}
 use Rattle.spd_cache.specs.declared.Looked.{Looked}
-use Rattle.spd_cache.specs.Cache.{slotCount, slotsWords, emptyCache, inUse, cached, turn, put, stored, lookedUp}
+use Rattle.spd_cache.specs.Cache.{slotCount, slotsWords, emptyCache, inUse, cached, turn, put, stored, lookedUp, replaced}
 use Rattle.spd_cache.specs.CacheLaws.{row-bound, lookup-hit, lookup-miss, lookup-none}
 
 -- The rows from one place on, in pieces.
@@ -60,10 +60,6 @@ empty-filled = record { size = length-replicate {A = ℕ} (slotsWords) 0; limit 
 pub empty-cached : cached emptyCache ≡ []
 unfolding rowsFrom
 empty-cached = refl
-
--- The rows with the row of one slot replaced; the slot may be the next after the last.
-abbrev pub replaced : List PolicyRow → ℕ → PolicyRow → List PolicyRow
-replaced rs slot r = take slot rs ++ r ∷ drop (slot + 1) rs
 
 replaced-mem : (rs : List PolicyRow) (slot : ℕ) (q r : PolicyRow) → List·Memᴰ r (replaced rs slot q) → List·Memᴰ r rs ⊎ (r ≡ q)
 replaced-mem rs slot q r m =

@@ -1,12 +1,9 @@
--- What the library says of itself: the number of its binary interface, its version, and the sizes of what is lent. Assumes nothing: these are
--- definitions, and that an empty cache has as many words.
+-- What the library says of itself: the number of its binary interface, its version, and the sizes of what is lent. Assumes nothing: these
+-- are definitions.
 use Prim.Native.Nat.{ℕ, _+_, _*_}
-use mathlib.Core.Path.{_≡_, refl}
 use lib.ListN.{length}
 use Rattle.policy.specs.Words.{rowLimit}
 use Rattle.policy_text.specs.Format.{header}
-use Rattle.spd_cache.specs.Cache.{emptyCache}
-use Rattle.spd_cache.specs.Lent.{cacheSize, cacheWords}
 
 abbrev pub abiNumber : ℕ
 abiNumber = 1
@@ -21,7 +18,3 @@ rowBytes = 120
 
 abbrev pub mostFormBytes : ℕ
 mostFormBytes = length header + rowLimit * rowBytes
-
-pub cache-size : length (cacheWords emptyCache) ≡ cacheSize
-unfolding cacheWords
-cache-size = refl

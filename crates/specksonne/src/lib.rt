@@ -22,7 +22,7 @@ ghost use Rattle.verdicts.specs.Verdict.{verdictNumber, carried};
 ghost use Rattle.spd_cache.specs.Lent.{cacheSize, cacheFrom, cacheWords};
 ghost use Rattle.answer_numbers.specs.Carries.{parsedCarries, printedCarries, comparedWords};
 ghost use Rattle.abi.specs.Words.{directionFrom, pairFrom, actionKind, actionNumber, isFound, placeFound, isReadable, readingWords, triggerWords};
-ghost use Rattle.specksonne.specs.Fresh.{cachesFrom};
+ghost use Rattle.specksonne.specs.Lent.{cachesFrom};
 ghost use Rattle.specksonne.specs.Sizes.{abiNumber, versionNumber, mostFormBytes};
 use packet::Reading;
 use policy::LIMIT;

@@ -2,7 +2,7 @@
 use mathlib.Core.Path.{refl, ap, _∙_}
 use Rattle.spd.specs.declared.Caches.{Caches}
 use Rattle.spd_cache.specs.Lent.{cacheWords}
-use Rattle.specksonne.specs.Fresh.{fresh-pairs}
+use Rattle.specksonne.specs.FreshLaws.{fresh-pairs}
 use borrow.Author.Needs.{needs}
 use Rattle.specksonne.proofs.specksonne_fresh.Statement.{statement}
 use Rattle.specksonne.proofs.specksonne_fresh.Tie as tie
