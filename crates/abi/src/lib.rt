@@ -1,16 +1,15 @@
-// Directions, values, pairs, actions and packets as the numbers and words by which they cross to C.
+// Directions, pairs, actions and packets as the numbers and words by which they cross to C.
 ghost use mathlib.Core.Path.{_≡_};
 ghost use lib.ListN.{length};
 ghost use Rattle.packet.specs.Read.{triggerOf};
-ghost use Rattle.abi.specs.Words.{directionFrom, endsOf, selectorsFrom, pairFrom, actionKind, actionNumber, isFound, placeFound, triggerPart};
+ghost use Rattle.abi.specs.Words.{directionFrom, pairFrom, actionKind, actionNumber, isFound, placeFound, triggerPart};
 use packet::Packet;
 use policy::Action;
 use policy::Found;
-use sad::Ends;
 use sad::NewPair;
 use selectors::Direction;
-use selectors::Selectors;
-use selectors::Value;
+use selectors::words::RANGES_WORDS;
+use selectors::words::ranges_at;
 
 pub fn direction_from(number: u64) -> Direction
     ensures { λ r. ⌜ r ≡ directionFrom number ⌝ }
@@ -21,48 +20,12 @@ pub fn direction_from(number: u64) -> Direction
     Direction::In
 }
 
-pub fn selectors_from(words: &[u64; 10]) -> Selectors
-    ensures { λ r. ⌜ r ≡ selectorsFrom (now (words .entry)) ⌝ }
-{
-    Selectors {
-        local: Value {
-            upper: words[0],
-            lower: words[1],
-        },
-        remote: Value {
-            upper: words[2],
-            lower: words[3],
-        },
-        protocol: Value {
-            upper: words[4],
-            lower: words[5],
-        },
-        local_port: Value {
-            upper: words[6],
-            lower: words[7],
-        },
-        remote_port: Value {
-            upper: words[8],
-            lower: words[9],
-        },
-    }
-}
-
-fn ends(a: u64, b: u64, c: u64, d: u64) -> Ends
-    ensures { λ r. ⌜ r ≡ endsOf a b c d ⌝ }
-{
-    Ends {
-        low: Value { upper: a, lower: b },
-        high: Value { upper: c, lower: d },
-    }
-}
-
 pub fn pair_from(
     protocol: u64,
     spi_in: u32,
     spi_out: u32,
     number: u64,
-    ranges: &[u64; 20],
+    ranges: &[u64; RANGES_WORDS],
 ) -> NewPair
     ensures { λ r. ⌜ r ≡ pairFrom protocol «spi_in» «spi_out» number (now (ranges .entry)) ⌝ }
 {
@@ -71,11 +34,7 @@ pub fn pair_from(
         spi_in,
         spi_out,
         number,
-        local: ends(ranges[0], ranges[1], ranges[2], ranges[3]),
-        remote: ends(ranges[4], ranges[5], ranges[6], ranges[7]),
-        ip_protocol: ends(ranges[8], ranges[9], ranges[10], ranges[11]),
-        local_port: ends(ranges[12], ranges[13], ranges[14], ranges[15]),
-        remote_port: ends(ranges[16], ranges[17], ranges[18], ranges[19]),
+        ranges: ranges_at(ranges, 0),
     }
 }
 

@@ -10,8 +10,8 @@ use lib.Dec.{leb}
 use lib.ListN.{length}
 use Rattle.selectors.specs.Range.{inField, addressSize, protocolSize, portSize}
 use Rattle.selectors.specs.Value.{number}
+use Rattle.selectors.specs.declared.Ends.{Ends}
 use Rattle.sad.specs.Pairs.{placeCount, pairAt, pairsFrom, pairs, live, liveAt, ipsec, reservedSpi, endsIn, rangesIn, wellFormed, addOutcome, removeOutcome}
-use Rattle.sad.specs.declared.Ends.{Ends}
 use Rattle.sad.specs.declared.NewPair.{NewPair}
 use Rattle.sad.specs.declared.Outcome.{Outcome}
 use Rattle.sad.specs.declared.Outcome.the-variants.{Done, ReservedSpi, AlreadyLive, TableFull, BadPair as Malformed, NothingToRemove}
@@ -64,20 +64,20 @@ range-decides size e =
     not-good (inr (inl h)) = λ g. omega arith
     not-good (inr (inr h)) = λ g. omega arith
 
-ranges-decide : (q : NewPair) → Decides (SomeBadRange q) (not (rangesIn q))
+ranges-decide : (q : NewPair) → Decides (SomeBadRange q) (not (rangesIn (q .ranges)))
 unfolding rangesIn
 ranges-decide q =
     decides-equal
-    (not-all-five (endsIn addressSize (q .local)) (endsIn addressSize (q .remote)) (endsIn protocolSize (q .«ip_protocol»))
-    (endsIn portSize (q .«local_port»)) (endsIn portSize (q .«remote_port»)))
-    (decides-or (range-decides addressSize (q .local)) (decides-or (range-decides addressSize (q .remote))
-    (decides-or (range-decides protocolSize (q .«ip_protocol»))
-    (decides-or (range-decides portSize (q .«local_port»)) (range-decides portSize (q .«remote_port»))))))
+    (not-all-five (endsIn addressSize (q .ranges .local)) (endsIn addressSize (q .ranges .remote)) (endsIn protocolSize (q .ranges .protocol))
+    (endsIn portSize (q .ranges .«local_port»)) (endsIn portSize (q .ranges .«remote_port»)))
+    (decides-or (range-decides addressSize (q .ranges .local)) (decides-or (range-decides addressSize (q .ranges .remote))
+    (decides-or (range-decides protocolSize (q .ranges .protocol))
+    (decides-or (range-decides portSize (q .ranges .«local_port»)) (range-decides portSize (q .ranges .«remote_port»))))))
 
 bad-decides : (q : NewPair) → Decides (BadPair q) (not (wellFormed q))
 unfolding wellFormed
 bad-decides q =
-    decides-equal (not-all-four (ipsec (q .protocol)) (leb 1 (q .number)) (leb (q .number) 255) (rangesIn q))
+    decides-equal (not-all-four (ipsec (q .protocol)) (leb 1 (q .number)) (leb (q .number) 255) (rangesIn (q .ranges)))
     (decides-or (ipsec-decides q)
     (decides-or (decides-or (decides-above 1 (q .number)) (decides-above (q .number) 255)) (ranges-decide q)))
 

@@ -9,10 +9,10 @@ use lib.ListN.{length, getD, take, drop}
 use Rattle.selectors.specs.Range.{absent, addressSize, protocolSize, portSize}
 use Rattle.selectors.specs.Value.{number}
 use Rattle.selectors.specs.declared.Direction.{Direction}
+use Rattle.selectors.specs.declared.Ends.{Ends}
 use Rattle.packet.specs.Header.{version, headerField, totalLength}
 use Rattle.packet.specs.Read.{triggerOf}
 use Rattle.packet.specs.declared.Packet.{Packet}
-use Rattle.sad.specs.declared.Ends.{Ends}
 use Rattle.sad.specs.declared.NewPair.{NewPair}
 use Rattle.policy.specs.Policy.{PolicyRow}
 use Rattle.policy_text.specs.Bytes.{lf, count}
@@ -94,11 +94,11 @@ BadRange size e = (size ≤ number (e .low)) ⊎ (size ≤ number (e .high)) ⊎
 
 abbrev pub SomeBadRange : NewPair → Type 0
 SomeBadRange q =
-    BadRange addressSize (q .local)
-    ⊎ BadRange addressSize (q .remote)
-    ⊎ BadRange protocolSize (q .«ip_protocol»)
-    ⊎ BadRange portSize (q .«local_port»)
-    ⊎ BadRange portSize (q .«remote_port»)
+    BadRange addressSize (q .ranges .local)
+    ⊎ BadRange addressSize (q .ranges .remote)
+    ⊎ BadRange protocolSize (q .ranges .protocol)
+    ⊎ BadRange portSize (q .ranges .«local_port»)
+    ⊎ BadRange portSize (q .ranges .«remote_port»)
 
 abbrev pub BadPair : NewPair → Type 0
 BadPair q = NotIpsec q ⊎ BadNumber q ⊎ SomeBadRange q

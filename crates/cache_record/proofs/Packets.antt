@@ -38,6 +38,7 @@ use denote.Triple.Walked.{says, Stays, stay-ref, stay-none-ref, stay-none-slice,
 use denote.Triple.Clauses.{Clauses, ensured, lasts, closing}
 use denote.Exit.{yes}
 use Rattle.policy.specs.Words.{rowLimit}
+use Rattle.sad.specs.Pairs.{tableWords}
 use Rattle.spd_words.specs.Words.{spdSize}
 use Rattle.spd_cache.specs.declared.Cache.{Cache}
 use Rattle.gateway.specs.declared.Answered.{Answered}
@@ -60,7 +61,7 @@ function k = record {
   locals =
       local Vd′.mir valueLocal
       ∷ local (tyRef (named 0) imm (tyArray (tyInt w64) (spdSize rowLimit))) valueLocal
-      ∷ local (tyRef (named 1) imm (tyArray (tyInt w64) 1536)) valueLocal
+      ∷ local (tyRef (named 1) imm (tyArray (tyInt w64) tableWords)) valueLocal
       ∷ local (tyRef (named 2) mut (pointee (T.the-row .written))) valueLocal
       ∷ local (sliceTy (tyRef (named 3) imm (tyInt w8))) valueLocal
       ∷ local L′.mir valueLocal
@@ -82,7 +83,7 @@ abbrev stayed : Stays (f.ended .signature .params) (f.ended .kept)
 stayed = (
   stay-none-ref (0 ∷ []) tt (words (spdSize rowLimit)) yes,
   (
-    stay-none-ref (1 ∷ []) tt (words 1536) yes,
+    stay-none-ref (1 ∷ []) tt (words tableWords) yes,
     (
       stay-ref (2 ∷ []) tt (plain (λ _. T.the-row)),
       (stay-none-slice (3 ∷ []) tt (plain (λ _. u8)) yes, tt),
@@ -132,13 +133,13 @@ module _ (answer : Call) (#g : Name) where
 
     -- what the other parameters own, and that it is had twice
     abbrev Rs : List RattleType
-    Rs = ShrRef (named 0) κ₀ (Array u64 tt (spdSize rowLimit)) ∷ ShrRef (named 1) κ₁ (Array u64 tt 1536) ∷ ShrSlice (named 3) κ₃ u8 ∷ []
+    Rs = ShrRef (named 0) κ₀ (Array u64 tt (spdSize rowLimit)) ∷ ShrRef (named 1) κ₁ (Array u64 tt tableWords) ∷ ShrSlice (named 3) κ₃ u8 ∷ []
 
     abbrev Own : Fml
     Own = owns Rs (policy, (table, (bytes, tt))) (ptr-vals policy, (ptr-vals table, (slice-vals bytes, tt)))
 
     twice : ent 𝓤 (sem 𝓤 H A Own) (sep 𝓤 (sem 𝓤 H A Own) (sem 𝓤 H A Own))
-    twice = twices 𝓤 H A W Rs (shr-copy 𝓤 H A W (named 0) κ₀ (Array u64 tt (spdSize rowLimit)), (shr-copy 𝓤 H A W (named 1) κ₁ (Array u64 tt 1536), (shr-slice-copy 𝓤 H A W (named 3) κ₃ u8, tt))) (policy, (table, (bytes, tt))) (ptr-vals policy, (ptr-vals table, (slice-vals bytes, tt)))
+    twice = twices 𝓤 H A W Rs (shr-copy 𝓤 H A W (named 0) κ₀ (Array u64 tt (spdSize rowLimit)), (shr-copy 𝓤 H A W (named 1) κ₁ (Array u64 tt tableWords), (shr-slice-copy 𝓤 H A W (named 3) κ₃ u8, tt))) (policy, (table, (bytes, tt))) (ptr-vals policy, (ptr-vals table, (slice-vals bytes, tt)))
 
     abbrev Tokens : Item 𝓤
     Tokens = ‵ (flft κ₀ q₀) ⊛ ‵ (flft κ₁ q₁) ⊛ ‵ (flft κ₃ q₃) ⊛ ‵ ftrue
@@ -177,7 +178,7 @@ module _ (answer : Call) (#g : Name) where
     module _ (C : Calls 𝓤 H) (Λ : Loops 𝓤 H) (fm : FmC 𝓤 H (W .laws) C) (known : Triple 𝓤 (C #g) (Core answer 𝓤 H A)) (room : Room u8 (length (now bytes))) where
       walk : ent 𝓤 (onEntry 𝓤 H A f.signature (κ₀, (κ₁, (κ, (κ₃, tt)))) (q₀, (q₁, (q, (q₃, tt)))) x at) (WpFn 𝓤 H C Λ (function #g) (vptr (policy .ptr .0) (policy .ptr .1) ∷ vptr (table .ptr .0) (table .ptr .1) ∷ vptr b o ∷ sliceVal (bytes .ptr) (length (now bytes)) ∷ []) Post)
       walk =
-          qed W ((‵ (flft κ₀ q₀) ⊛ ‵ (flft κ₁ q₁) ⊛ ‵ (flft κ q) ⊛ ‵ (flft κ₃ q₃) ⊛ ‵ ftrue) ∷ ‵ (owns (ShrRef (named 0) κ₀ (Array u64 tt (spdSize rowLimit)) ∷ ShrRef (named 1) κ₁ (Array u64 tt 1536) ∷ MutRef (named 2) κ T.the-row ∷ ShrSlice (named 3) κ₃ u8 ∷ []) x at) ∷ []) ∵
+          qed W ((‵ (flft κ₀ q₀) ⊛ ‵ (flft κ₁ q₁) ⊛ ‵ (flft κ q) ⊛ ‵ (flft κ₃ q₃) ⊛ ‵ ftrue) ∷ ‵ (owns (ShrRef (named 0) κ₀ (Array u64 tt (spdSize rowLimit)) ∷ ShrRef (named 1) κ₁ (Array u64 tt tableWords) ∷ MutRef (named 2) κ T.the-row ∷ ShrSlice (named 3) κ₃ u8 ∷ []) x at) ∷ []) ∵
           -- what is owned is taken apart: one copy of what the others own goes to the callee, with the tokens, and one is kept
           split ! $ move ! (1 ∷ []) $ split ! $ move ! (1 ∷ []) $ split ! $ move ! (2 ∷ 1 ∷ []) $ join ! $ move ! (2 ∷ 0 ∷ []) $ join ! $
           -- [the others' tokens; κ's; what the four own]
@@ -211,11 +212,11 @@ module _ (answer : Call) (#g : Name) where
     walks : (C : Calls 𝓤 H) (Λ : Loops 𝓤 H) → FmC 𝓤 H (W .laws) C → Triple 𝓤 (C #g) (Core answer 𝓤 H A) → Walks 𝓤 H A f.ended stayed (WpFn 𝓤 H C Λ (function #g)) (in-place answer 𝓤)
     walks C Λ fm known = walked 𝓤 H A f.ended stayed (in-place answer 𝓤) (WpFn 𝓤 H C Λ (function #g))
         (λ κs. (ptr-vals, (ptr-vals, (ptr-vals, (slice-vals, tt)))))
-        (λ κs. (shr-tells (named 0) (κs .0) (Array u64 tt (spdSize rowLimit)), (shr-tells (named 1) (κs .1 .0) (Array u64 tt 1536), (mut-tells (named 2) (κs .1 .1 .0) T.the-row, (shr-slice-tells (named 3) (κs .1 .1 .1 .0) u8, tt)))))
+        (λ κs. (shr-tells (named 0) (κs .0) (Array u64 tt (spdSize rowLimit)), (shr-tells (named 1) (κs .1 .0) (Array u64 tt tableWords), (mut-tells (named 2) (κs .1 .1 .0) T.the-row, (shr-slice-tells (named 3) (κs .1 .1 .1 .0) u8, tt)))))
         (λ κs qs bounds a _ are. via 𝓤 _ (fst∗ 𝓤 _ (emp 𝓤)) (walk 𝓤 H A W (κs .0) (κs .1 .0) (κs .1 .1 .0) (κs .1 .1 .1 .0) (qs .0) (qs .1 .0) (qs .1 .1 .0) (qs .1 .1 .1 .0) bounds (a .1 .1 .0 .ptr .0) (a .1 .1 .0 .ptr .1) (a .1 .1 .0 .name) (a .1 .1 .0 .now) (a .0) (a .1 .0) (a .1 .1 .1 .0) C Λ fm known (are .1 .1 .1 .0 .0 .1)))
 
     goes : AllGo 𝓤 H A W 4 (f.signature .params) (f.ended .kept) stayed
-    goes = (goes-none-ref 𝓤 H A W 4 (0 ∷ []) tt (words (spdSize rowLimit)) yes, (goes-none-ref 𝓤 H A W 4 (1 ∷ []) tt (words 1536) yes, (goes-ref 𝓤 H A W 4 2 tt (plain (λ _. T.the-row)), (goes-none-slice 𝓤 H A W 4 (3 ∷ []) tt (plain (λ _. u8)) yes, tt))))
+    goes = (goes-none-ref 𝓤 H A W 4 (0 ∷ []) tt (words (spdSize rowLimit)) yes, (goes-none-ref 𝓤 H A W 4 (1 ∷ []) tt (words tableWords) yes, (goes-ref 𝓤 H A W 4 2 tt (plain (λ _. T.the-row)), (goes-none-slice 𝓤 H A W 4 (3 ∷ []) tt (plain (λ _. u8)) yes, tt))))
 
     pub meets : (𝓣 : Tables 𝓤 H) → Triple 𝓤 (𝓣 .C #g) (Core answer 𝓤 H A) → Meets 𝓤 H A f.signature (WpFn 𝓤 H (𝓣 .C) (𝓣 .Λ) (function #g)) (closing 𝓤 H A f.ended (in-place answer 𝓤))
     meets 𝓣 known = walk-meets 𝓤 H A f.ended stayed W goes (in-place answer 𝓤) (WpFn 𝓤 H (𝓣 .C) (𝓣 .Λ) (function #g)) (WpFn-mono 𝓤 H (W .laws) 𝓣 (function #g)) (walks (𝓣 .C) (𝓣 .Λ) (fmOf 𝓤 H (W .laws) 𝓣) known)

@@ -7,6 +7,7 @@ ghost use Rattle.spd_words.specs.Words.{rowsOf, addressOf};
 ghost use Rattle.spd_cache.specs.Cache.{lookedUp};
 ghost use Rattle.gateway.specs.Cached.{outboundCached, inboundCached};
 use policy::Action;
+use sad::TABLE_WORDS;
 use selectors::Direction;
 use selectors::Selectors;
 use spd_cache::Cache;
@@ -24,7 +25,7 @@ pub fn lookup(cache: &mut Cache, rows: &[u64], direction: Direction, selectors: 
 // A packet going out: `policy` has the normal-form rows that the gateway holds, `table` its pairs, `cache` is that of the direction.
 pub fn outbound(
     policy: &[u64; SPD_WORDS],
-    table: &[u64; 1536],
+    table: &[u64; TABLE_WORDS],
     cache: &mut Cache,
     bytes: &[u8],
 ) -> Verdict
@@ -38,7 +39,7 @@ pub fn outbound(
 // A packet coming in from outside.
 pub fn inbound(
     policy: &[u64; SPD_WORDS],
-    table: &[u64; 1536],
+    table: &[u64; TABLE_WORDS],
     cache: &mut Cache,
     bytes: &[u8],
 ) -> Verdict

@@ -9,6 +9,7 @@ ghost use Rattle.gateway.specs.Cached.{outboundCached, inboundCached};
 use own_ipsec::Own;
 use packet::Reading;
 use sad::Place;
+use sad::TABLE_WORDS;
 use selectors::Direction;
 use spd_cache::Cache;
 use spd_words::SPD_WORDS;
@@ -23,7 +24,7 @@ pub struct Answered {
 // A packet going out: `policy` has the normal-form rows that the gateway holds, `table` its pairs, `cache` is that of the direction.
 pub fn outbound(
     policy: &[u64; SPD_WORDS],
-    table: &[u64; 1536],
+    table: &[u64; TABLE_WORDS],
     cache: Cache,
     bytes: &[u8],
 ) -> Answered
@@ -50,7 +51,7 @@ pub fn outbound(
 // A packet coming in from outside.
 pub fn inbound(
     policy: &[u64; SPD_WORDS],
-    table: &[u64; 1536],
+    table: &[u64; TABLE_WORDS],
     cache: Cache,
     bytes: &[u8],
 ) -> Answered
@@ -78,7 +79,7 @@ pub fn inbound(
 }
 
 // The triggering header of an ICMP error message that came from the association at a place. It is read as going out.
-fn from_trigger(table: &[u64; 1536], place: usize, header: &[u8]) -> Verdict
+fn from_trigger(table: &[u64; TABLE_WORDS], place: usize, header: &[u8]) -> Verdict
     ensures { λ r. ⌜ r ≡ triggerRead (fitsAt (now (table .entry)) place) (readTrigger Direction.Out (now (header .entry))) ⌝ }
 {
     let reading = packet::read_trigger(header, Direction::Out);
@@ -92,7 +93,7 @@ fn from_trigger(table: &[u64; 1536], place: usize, header: &[u8]) -> Verdict
 }
 
 // A packet coming in from an association: the pair of that protocol and inbound SPI took AH or ESP off. Its place is looked for once.
-pub fn from_sa(table: &[u64; 1536], protocol: u64, spi: u32, bytes: &[u8]) -> Verdict
+pub fn from_sa(table: &[u64; TABLE_WORDS], protocol: u64, spi: u32, bytes: &[u8]) -> Verdict
     ensures { λ r. ⌜ r ≡ fromSaBy protocol spi (pairs (now (table .entry))) (now (bytes .entry)) ⌝ }
 {
     let found = sad::place_of(table, protocol, spi);

@@ -3,19 +3,21 @@ ghost use mathlib.Core.Path.{_≡_};
 ghost use Rattle.sad.specs.Pairs.{pairs};
 ghost use Rattle.policy.specs.Words.{rowLimit};
 ghost use Rattle.spd_words.specs.Words.{rowsOf, addressOf};
-ghost use Rattle.cache_in_place.specs.Lent.{cacheFrom, cacheWords};
+ghost use Rattle.spd_cache.specs.Lent.{cacheFrom, cacheWords};
 ghost use Rattle.gateway.specs.Cached.{outboundCached, inboundCached};
 use own_ipsec::Own;
 use packet::Reading;
+use sad::TABLE_WORDS;
 use selectors::Direction;
+use spd_cache::lent::CACHE_WORDS;
 use spd_words::SPD_WORDS;
 use verdicts::Verdict;
 
 // A packet going out (`gateway::outbound`).
 pub fn outbound(
     policy: &[u64; SPD_WORDS],
-    table: &[u64; 1536],
-    cache: &mut [u64; 706],
+    table: &[u64; TABLE_WORDS],
+    cache: &mut [u64; CACHE_WORDS],
     bytes: &[u8],
 ) -> Verdict
     ensures { λ r. ⌜ r ≡ outboundCached (cacheFrom (now (cache .entry))) (rowsOf rowLimit (now (policy .entry)) Direction.Out) (pairs (now (table .entry))) (now (bytes .entry)) .verdict ⌝ }
@@ -29,15 +31,15 @@ pub fn outbound(
     };
     let selectors = packet.selectors;
     let rows = spd_words::rows_of(policy, Direction::Out);
-    let action = cache_in_place::lookup(cache, rows, Direction::Out, selectors);
+    let action = spd_cache::lent::lookup(cache, rows, Direction::Out, selectors);
     verdicts::outbound_action(table, selectors, action)
 }
 
 // A packet coming in from outside (`gateway::inbound`).
 pub fn inbound(
     policy: &[u64; SPD_WORDS],
-    table: &[u64; 1536],
-    cache: &mut [u64; 706],
+    table: &[u64; TABLE_WORDS],
+    cache: &mut [u64; CACHE_WORDS],
     bytes: &[u8],
 ) -> Verdict
     ensures { λ r. ⌜ r ≡ inboundCached (cacheFrom (now (cache .entry))) (rowsOf rowLimit (now (policy .entry)) Direction.In) (addressOf (now (policy .entry))) (pairs (now (table .entry))) (now (bytes .entry)) .verdict ⌝ }
@@ -54,6 +56,6 @@ pub fn inbound(
         return verdict;
     }
     let rows = spd_words::rows_of(policy, Direction::In);
-    let action = cache_in_place::lookup(cache, rows, Direction::In, packet.selectors);
+    let action = spd_cache::lent::lookup(cache, rows, Direction::In, packet.selectors);
     verdicts::inbound_action(action)
 }

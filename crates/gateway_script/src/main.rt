@@ -43,9 +43,11 @@ use policy_text::after;
 use policy_text::before;
 use policy_text::count;
 use policy_text::same;
-use sad::Ends;
 use sad::NewPair;
+use sad::TABLE_WORDS;
 use selectors::Direction;
+use selectors::Ends;
+use selectors::Ranges;
 use selectors::Value;
 use spd::Caches;
 use spd_words::SPD_WORDS;
@@ -99,7 +101,7 @@ fn from_input(file: i32) {
 
 fn replay(script: &[u8]) {
     let mut policy = [0u64; SPD_WORDS];
-    let mut table = [0u64; 1536];
+    let mut table = [0u64; TABLE_WORDS];
     let mut caches = spd::fresh(&mut policy, 0);
     let mut at: usize = 0;
     while at < script.len() {
@@ -122,7 +124,7 @@ fn next_line(end: usize, at: usize, length: usize) -> usize
 
 fn one_line(
     policy: &mut [u64; SPD_WORDS],
-    table: &mut [u64; 1536],
+    table: &mut [u64; TABLE_WORDS],
     caches: Caches,
     line: &[u8],
 ) -> Caches {
@@ -182,7 +184,7 @@ fn operation_on_bytes(line: &[u8]) -> Operation {
 // Carries a line out, and writes its answer.
 fn operate(
     policy: &mut [u64; SPD_WORDS],
-    table: &mut [u64; 1536],
+    table: &mut [u64; TABLE_WORDS],
     caches: Caches,
     line: &[u8],
 ) -> Caches {
@@ -208,7 +210,7 @@ fn refuse(caches: Caches) -> Caches
 // A fresh gateway: its address, the policy without rows, no pair and empty caches.
 fn gate(
     policy: &mut [u64; SPD_WORDS],
-    table: &mut [u64; 1536],
+    table: &mut [u64; TABLE_WORDS],
     caches: Caches,
     fields: &[u8],
 ) -> Caches {
@@ -221,15 +223,15 @@ fn gate(
     spd::fresh(policy, own)
 }
 
-fn empty(table: &mut [u64; 1536]) {
+fn empty(table: &mut [u64; TABLE_WORDS]) {
     let mut i: usize = 0;
-    while i < 1536 {
+    while i < TABLE_WORDS {
         table[i] = 0;
         i += 1;
     }
 }
 
-fn add(table: &mut [u64; 1536], caches: Caches, fields: &[u8]) -> Caches
+fn add(table: &mut [u64; TABLE_WORDS], caches: Caches, fields: &[u8]) -> Caches
     ensures { λ r. ⌜ r ≡ caches ⌝ }
 {
     let mut values = [0u64; 15];
@@ -257,11 +259,13 @@ fn new_pair(values: &[u64; 15], spi_in: u32, spi_out: u32) -> NewPair {
         spi_in,
         spi_out,
         number: values[3],
-        local: ends(values[5], values[6]),
-        remote: ends(values[7], values[8]),
-        ip_protocol: ends(values[9], values[10]),
-        local_port: ends(values[11], values[12]),
-        remote_port: ends(values[13], values[14]),
+        ranges: Ranges {
+            local: ends(values[5], values[6]),
+            remote: ends(values[7], values[8]),
+            protocol: ends(values[9], values[10]),
+            local_port: ends(values[11], values[12]),
+            remote_port: ends(values[13], values[14]),
+        },
     }
 }
 
@@ -278,7 +282,7 @@ fn ends(low: u64, high: u64) -> Ends {
     }
 }
 
-fn remove(table: &mut [u64; 1536], caches: Caches, fields: &[u8]) -> Caches
+fn remove(table: &mut [u64; TABLE_WORDS], caches: Caches, fields: &[u8]) -> Caches
     ensures { λ r. ⌜ r ≡ caches ⌝ }
 {
     let protocol = read_number(field(fields, 0));
@@ -296,7 +300,7 @@ fn remove(table: &mut [u64; 1536], caches: Caches, fields: &[u8]) -> Caches
 // An operation whose last field is a byte string. The room is long enough for any line of a script.
 fn on_text(
     policy: &mut [u64; SPD_WORDS],
-    table: &mut [u64; 1536],
+    table: &mut [u64; TABLE_WORDS],
     caches: Caches,
     call: Call,
     fields: &[u8],
@@ -311,7 +315,7 @@ fn on_text(
 
 fn on_bytes(
     policy: &mut [u64; SPD_WORDS],
-    table: &[u64; 1536],
+    table: &[u64; TABLE_WORDS],
     caches: Caches,
     call: Call,
     fields: &[u8],
@@ -335,7 +339,12 @@ fn accept(policy: &mut [u64; SPD_WORDS], caches: Caches, bytes: &[u8]) -> Caches
     settled.caches
 }
 
-fn outbound(policy: &[u64; SPD_WORDS], table: &[u64; 1536], caches: Caches, bytes: &[u8]) -> Caches
+fn outbound(
+    policy: &[u64; SPD_WORDS],
+    table: &[u64; TABLE_WORDS],
+    caches: Caches,
+    bytes: &[u8],
+) -> Caches
     ensures { λ r. ⌜ r .outbound ≡ outboundCached (caches .outbound) (rowsOf rowLimit (now (policy .entry)) Direction.Out) (pairs (now (table .entry))) (now (bytes .entry)) .cache ⌝ }
     ensures { λ r. ⌜ r .inbound ≡ caches .inbound ⌝ }
 {
@@ -351,7 +360,12 @@ fn outbound(policy: &[u64; SPD_WORDS], table: &[u64; 1536], caches: Caches, byte
     }
 }
 
-fn inbound(policy: &[u64; SPD_WORDS], table: &[u64; 1536], caches: Caches, bytes: &[u8]) -> Caches
+fn inbound(
+    policy: &[u64; SPD_WORDS],
+    table: &[u64; TABLE_WORDS],
+    caches: Caches,
+    bytes: &[u8],
+) -> Caches
     ensures { λ r. ⌜ r .inbound ≡ inboundCached (caches .inbound) (rowsOf rowLimit (now (policy .entry)) Direction.In) (addressOf (now (policy .entry))) (pairs (now (table .entry))) (now (bytes .entry)) .cache ⌝ }
     ensures { λ r. ⌜ r .outbound ≡ caches .outbound ⌝ }
 {
@@ -367,7 +381,7 @@ fn inbound(policy: &[u64; SPD_WORDS], table: &[u64; 1536], caches: Caches, bytes
     }
 }
 
-fn from_sa(table: &[u64; 1536], caches: Caches, fields: &[u8], bytes: &[u8]) -> Caches
+fn from_sa(table: &[u64; TABLE_WORDS], caches: Caches, fields: &[u8], bytes: &[u8]) -> Caches
     ensures { λ r. ⌜ r ≡ caches ⌝ }
 {
     let protocol = read_number(field(fields, 0));

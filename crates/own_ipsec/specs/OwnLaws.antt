@@ -8,8 +8,8 @@ use lib.Dec.{eqb}
 use Rattle.selectors.specs.Value.{number}
 use Rattle.packet.specs.declared.Packet.{Packet}
 use mathlib.Core.List.{List}
-use Rattle.sad.specs.Pairs.{Pair}
-use Rattle.verdicts.specs.Calls.{espProtocol, ahProtocol, espBytes, ahBytes, esp, forGateway, toIpsec}
+use Rattle.sad.specs.Pairs.{espProtocol, ahProtocol, Pair}
+use Rattle.verdicts.specs.Calls.{espBytes, ahBytes, esp, forGateway, toIpsec}
 use Rattle.verdicts.specs.declared.Verdict.{Verdict}
 use Rattle.own_ipsec.specs.declared.Own.the-variants.{Answer, NotOwn}
 use Rattle.own_ipsec.specs.Own.{ownAnswer}

@@ -4,18 +4,17 @@ ghost use Prim.Native.Nat.{_+_, _-_, _≤_};
 ghost use mathlib.Core.Bool.{cond};
 ghost use lib.Dec.{eqb};
 ghost use Rattle.selectors.specs.Value.{number};
-ghost use Rattle.sad.specs.Pairs.{pairs};
-ghost use Rattle.verdicts.specs.Calls.{espProtocol, ahProtocol, espBytes, forGateway, fragment, esp, leastUpper, spiOf, toIpsec};
+ghost use Rattle.sad.specs.Pairs.{espProtocol, ahProtocol, pairs};
+ghost use Rattle.verdicts.specs.Calls.{espBytes, forGateway, fragment, esp, leastUpper, spiOf, toIpsec};
 ghost use Rattle.own_ipsec.specs.Own.{ownAnswer};
 use packet::Packet;
+use sad::AH;
+use sad::ESP;
+use sad::TABLE_WORDS;
 use selectors::Value;
 use verdicts::Verdict;
 
-// The numbers of `Calls.antt`: protocols, least upper parts, where AH's SPI stands.
-const ESP: u64 = 50;
-
-const AH: u64 = 51;
-
+// The numbers of `Calls.antt`: least upper parts, where AH's SPI stands.
 const ESP_BYTES: usize = 8;
 
 const AH_BYTES: usize = 12;
@@ -110,7 +109,7 @@ fn spi_of(bytes: &[u8], packet: Packet) -> u32
 }
 
 // What becomes of AH or ESP for the gateway.
-fn to_ipsec(table: &[u64; 1536], bytes: &[u8], packet: Packet) -> Verdict
+fn to_ipsec(table: &[u64; TABLE_WORDS], bytes: &[u8], packet: Packet) -> Verdict
     requires { ⌜ number (packet .selectors .protocol) ≡ cond (esp packet) espProtocol ahProtocol ⌝ }
     ensures { λ r. ⌜ r ≡ toIpsec (pairs (now (table .entry))) (now (bytes .entry)) packet ⌝ }
 {
@@ -129,7 +128,7 @@ fn to_ipsec(table: &[u64; 1536], bytes: &[u8], packet: Packet) -> Verdict
 }
 
 // The answer to AH or ESP for the gateway, whose own address is given.
-pub fn answer(address: u64, table: &[u64; 1536], bytes: &[u8], packet: Packet) -> Own
+pub fn answer(address: u64, table: &[u64; TABLE_WORDS], bytes: &[u8], packet: Packet) -> Own
     ensures { λ r. ⌜ r ≡ ownAnswer address (pairs (now (table .entry))) (now (bytes .entry)) packet ⌝ }
 {
     if !for_gateway(address, packet) {

@@ -1,17 +1,17 @@
 -- The table of SA pairs as words, and what any words mean (document 01, 'Cache and associations'). Assumes nothing: these are definitions.
--- 64 places of 24 words each: protocol, inbound SPI, outbound SPI, protect number, and for each of five fields the low end and the high
--- end, each two words, the upper first.
+-- 64 places of 24 words each: protocol, inbound SPI, outbound SPI, protect number, and a range for each of five fields.
 use Prim.Native.Nat.{ℕ, zero, suc, _+_, _*_}
 use mathlib.Core.Bool.{Bool, true, false, not, cond, _&&_, _||_}
 use mathlib.Core.List.{List, [], _∷_}
 use mathlib.Core.Option.{Option, none, some}
 use lib.Dec.{ltb, leb, eqb}
 use lib.ListN.{length, getD, set}
-use lib.Seq.{paste}
+use lib.Seq.{sets}
 use Rattle.selectors.specs.Range.{Range, inField, addressSize, protocolSize, portSize, holds}
-use Rattle.selectors.specs.Ranges.{fromTo}
-use Rattle.selectors.specs.Words.{rangesAt}
-use Rattle.sad.specs.declared.Ends.{Ends}
+use Rattle.selectors.specs.Ranges.{endsRange, fiveRanges}
+use Rattle.selectors.specs.Words.{rangesWords, rangesAt, wordsOfRanges}
+use Rattle.selectors.specs.declared.Ends.{Ends}
+use Rattle.selectors.specs.declared.Ranges.{Ranges}
 use Rattle.sad.specs.declared.NewPair.{NewPair}
 use Rattle.sad.specs.declared.Place.{Place}
 use Rattle.sad.specs.declared.Place.the-variants.{At, Nowhere}
@@ -32,12 +32,25 @@ pub record Pair : Type 0 where
 abbrev pub placeCount : ℕ
 placeCount = 64
 
-abbrev pub placeWords : ℕ
-placeWords = 24
+-- The words of a place before its ranges, of a place, and of the table.
+abbrev pub headWords : ℕ
+headWords = 4
 
--- ESP or AH.
+abbrev pub placeWords : ℕ
+placeWords = headWords + rangesWords
+
+abbrev pub tableWords : ℕ
+tableWords = placeCount * placeWords
+
+-- The protocols: ESP or AH.
+abbrev pub espProtocol : ℕ
+espProtocol = 50
+
+abbrev pub ahProtocol : ℕ
+ahProtocol = 51
+
 abbrev pub ipsec : ℕ → Bool
-ipsec protocol = eqb protocol 50 || eqb protocol 51
+ipsec protocol = eqb protocol espProtocol || eqb protocol ahProtocol
 
 -- The pair at a place, and whether it is live: whether its protocol is ESP or AH.
 unfoldable pub pairAt : List ℕ → ℕ → Pair
@@ -47,7 +60,7 @@ pairAt ws i =
       spiIn = getD ws (i * placeWords + 1) 0;
       spiOut = getD ws (i * placeWords + 2) 0;
       number = getD ws (i * placeWords + 3) 0;
-      ranges = rangesAt ws (i * placeWords + 4);
+      ranges = rangesAt ws (i * placeWords + headWords);
     }
 
 abbrev pub liveAt : List ℕ → ℕ → Bool
@@ -139,26 +152,29 @@ outcomeNumber BadPair = 28
 outcomeNumber NothingToRemove = 29
 
 -- 'Either SPI below 256.'
+abbrev pub firstSpi : ℕ
+firstSpi = 256
+
 unfoldable pub reservedSpi : NewPair → Bool
-reservedSpi p = ltb (p .«spi_in») 256 || ltb (p .«spi_out») 256
+reservedSpi p = ltb (p .«spi_in») firstSpi || ltb (p .«spi_out») firstSpi
 
 -- 'Protocol not 50 or 51, number not 1 to 255, a range value beyond its field, or low above high' makes a pair a bad one.
-abbrev pub endsRange : Ends → Range
-endsRange e = fromTo (e .low) (e .high)
+abbrev pub lastNumber : ℕ
+lastNumber = 255
 
 abbrev pub endsIn : ℕ → Ends → Bool
 endsIn size e = inField size (endsRange e)
 
-unfoldable pub rangesIn : NewPair → Bool
-rangesIn p =
-    endsIn addressSize (p .local)
-    && endsIn addressSize (p .remote)
-    && endsIn protocolSize (p .«ip_protocol»)
-    && endsIn portSize (p .«local_port»)
-    && endsIn portSize (p .«remote_port»)
+unfoldable pub rangesIn : Ranges → Bool
+rangesIn r =
+    endsIn addressSize (r .local)
+    && endsIn addressSize (r .remote)
+    && endsIn protocolSize (r .protocol)
+    && endsIn portSize (r .«local_port»)
+    && endsIn portSize (r .«remote_port»)
 
 unfoldable pub wellFormed : NewPair → Bool
-wellFormed p = ipsec (p .protocol) && leb 1 (p .number) && leb (p .number) 255 && rangesIn p
+wellFormed p = ipsec (p .protocol) && leb 1 (p .number) && leb (p .number) lastNumber && rangesIn (p .ranges)
 
 -- 'An added pair: 25, 28, 26, 27.'
 unfoldable pub addOutcome : List Pair → NewPair → Outcome
@@ -176,19 +192,14 @@ newPair p =
       spiIn = p .«spi_in»;
       spiOut = p .«spi_out»;
       number = p .number;
-      ranges = endsRange (p .local) ∷ endsRange (p .remote) ∷ endsRange (p .«ip_protocol») ∷ endsRange (p .«local_port») ∷ endsRange (p .«remote_port») ∷ [];
+      ranges = fiveRanges (p .ranges);
     }
 
-abbrev pub endsWords : Ends → List ℕ → List ℕ
-endsWords e rest = e .low .upper ∷ e .low .lower ∷ e .high .upper ∷ e .high .lower ∷ rest
-
 unfoldable pub pairWords : NewPair → List ℕ
-pairWords p =
-    p .protocol ∷ p .«spi_in» ∷ p .«spi_out» ∷ p .number
-    ∷ endsWords (p .local) (endsWords (p .remote) (endsWords (p .«ip_protocol») (endsWords (p .«local_port») (endsWords (p .«remote_port») []))))
+pairWords p = p .protocol ∷ p .«spi_in» ∷ p .«spi_out» ∷ p .number ∷ wordsOfRanges (fiveRanges (p .ranges))
 
 abbrev pub putAt : List ℕ → NewPair → Place → List ℕ
-putAt ws p (At i) = paste ws (i * placeWords) (pairWords p) placeWords
+putAt ws p (At i) = sets ws (i * placeWords) (pairWords p)
 putAt ws p Nowhere = ws
 
 -- The table afterwards: a refusal changes nothing.

@@ -7,13 +7,10 @@ use mathlib.Core.Bool.{Bool, true, false, cond, _&&_, or-false}
 use mathlib.Core.List.{List, [], _∷_}
 use mathlib.Core.Option.{Option, none, some}
 use lib.Dec.{ltb, leb, eqb}
-use lib.Seq.{paste}
+use lib.Seq.{sets}
 use lib.ListN.{length, getD, set}
 use borrow.Author.Tests.{lt-ltb, le-ltb, le-leb, lt-leb, eq-eqb, ne-eqb}
-use Rattle.selectors.specs.Range.{contains, holds}
-use Rattle.selectors.specs.Ranges.{fromTo}
-use Rattle.selectors.specs.Words.{valueAt, rangeAt}
-use Rattle.selectors.specs.declared.Value.{Value}
+use Rattle.selectors.specs.Range.{holds}
 use Rattle.selectors.specs.declared.NewAddressRange.{NewAddressRange}
 use Rattle.selectors.specs.declared.NewAddressRange.the-variants.{Made as AddressMade, Refused as AddressRefused}
 use Rattle.selectors.specs.declared.NewProtocolRange.{NewProtocolRange}
@@ -27,11 +24,6 @@ use Rattle.sad.specs.declared.Outcome.the-variants.{Done, ReservedSpi, A
 use Rattle.sad.specs.declared.NewPair.{NewPair}
 use Rattle.sad.specs.declared.PairFound.the-variants.{Found, Nothing}
 use Rattle.sad.specs.Pairs.{Pair, placeCount, placeWords, pairAt, liveAt, pairsFrom, pairs, pairFor, placeOf, freePlace, reservedSpi, wellFormed, pairWords, addOutcome, added, removeOutcome, removed, named, live, fitting, namedAt, freeAt, wanted, before, beats, bestOf, chosen, betterOf, firstFrom, fitsAt}
-
--- A range made of the values at its words is the range at those words.
-pub values-hold : (ws : List ℕ) (at v : ℕ) (low high : Value) → low ≡ valueAt ws at → high ≡ valueAt ws (at + 2)
-    → contains (fromTo low high) v ≡ contains (rangeAt ws at) v
-values-hold ws at v low high p q = rw (p, q)
 
 -- Whether a range was made, and that it was where the test that chose holds.
 abbrev pub addressMade : NewAddressRange → Bool
@@ -84,16 +76,6 @@ best-cons number vs b q qs = refl
 
 -- One more place of the search for the best pair, and its end.
 module _ (ws : List ℕ) (number : ℕ) (vs : List ℕ) (best i : ℕ) where
-  -- A place without a live pair of that number changes nothing.
-  pub passed-over : (liveAt ws i && eqb (pairAt ws i .number) number) ≡ false → betterOf ws number vs best i ≡ best
-  unfolding betterOf wanted
-  passed-over e = by (liveAt ws i) (eqb (pairAt ws i .number) number) e
-    where
-      by : (l b : Bool) → (l && b) ≡ false → cond ((l && (b && holds (pairAt ws i .ranges) vs)) && beats (pairAt ws i) (chosen ws best)) i best ≡ best
-      by false b e = refl
-      by true false e = refl
-      by true true e = let z : _≡_ {A = ℕ} 0 1 = cc in omega arith
-
   pub best-next : i < placeCount
       → bestOf number vs (chosen ws best) (pairsFrom ws i (placeCount - i))
       ≡ bestOf number vs (chosen ws (betterOf ws number vs best i)) (pairsFrom ws (i + 1) (placeCount - (i + 1)))
@@ -251,7 +233,7 @@ module _ (ws : List ℕ) (p : NewPair) where
             let d : leb placeCount (length (pairs ws)) ≡ true = le-leb placeCount (length (pairs ws)) (omega (arith, none-free ws 0 placeCount e)) in
             (rw (a, b, c, d), rw (a, b, c, d))
 
-        pub add-at : (i : ℕ) → freePlace ws ≡ At i → Answers ws p Done (paste ws (i * placeWords) (pairWords p) placeWords)
+        pub add-at : (i : ℕ) → freePlace ws ≡ At i → Answers ws p Done (sets ws (i * placeWords) (pairWords p))
         unfolding addOutcome added
         add-at i e =
             let d : leb placeCount (length (pairs ws)) ≡ false = lt-leb _ _ (some-free ws 0 placeCount i e) in

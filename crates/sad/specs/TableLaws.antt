@@ -5,21 +5,22 @@ use native.Mathlib.Nat.{add-zero, add-assoc}
 use native.Mathlib.Decide.{decLt}
 use mathlib.Core.Path.{_≡_, refl, sym, ap, _∙_}
 use mathlib.Core.Bool.{Bool, true, false, not, cond}
-use mathlib.Core.List.{List, _∷_, _++_}
+use mathlib.Core.List.{List, _∷_, _++_, append-assoc}
 use mathlib.Core.Logic.{_≢_}
 use lib.Dec.{leb, lit<, lit≤}
 use borrow.Author.Tests.{not-true, leb-false}
-use lib.ListN.{length, getD, set, length-set}
-use lib.Seq.{length-paste, getD-set-same, getD-set-other}
+use lib.ListN.{length, getD, set, take, drop, length-set}
+use lib.Seq.{paste, sets-eq, length-sets, length-take-le, drop-at, getD-drop, getD-set-same, getD-set-other}
 use Rattle.selectors.specs.RangeLaws.{both-true}
-use Rattle.selectors.specs.Words.{valueAt, rangesAt}
+use Rattle.selectors.specs.Words.{valueAt, wordsOfValue}
+use Rattle.selectors.specs.WordsLaws.{value-written}
 use Rattle.selectors.specs.StoresLaws.{paste-before, paste-in, paste-after}
 use Rattle.sad.specs.declared.NewPair.{NewPair}
 use Rattle.sad.specs.declared.Place.{Place}
 use Rattle.sad.specs.declared.Place.the-variants.{At, Nowhere}
 use Rattle.sad.specs.declared.Outcome.{Outcome}
 use Rattle.sad.specs.declared.Outcome.the-variants.{Done, ReservedSpi, AlreadyLive, TableFull, BadPair, NothingToRemove}
-use Rattle.sad.specs.Pairs.{Pair, placeCount, placeWords, ipsec, pairAt, liveAt, pairsFrom, pairs, named, namedAt, freeAt, firstFrom, placeOf, freePlace, newPair, pairWords, putAt, addedIf, added, live, reservedSpi, rangesIn, wellFormed, addOutcome, removeOutcome, clearedAt, removed}
+use Rattle.sad.specs.Pairs.{Pair, placeCount, placeWords, tableWords, ipsec, pairAt, liveAt, pairsFrom, pairs, named, namedAt, freeAt, firstFrom, placeOf, freePlace, newPair, pairWords, putAt, addedIf, added, live, reservedSpi, lastNumber, rangesIn, wellFormed, addOutcome, removeOutcome, clearedAt, removed}
 use Rattle.sad.specs.PairsLaws.{first-bound, place-bound, pairs-live, pairs-free, none-free, removed-none, removed-at}
 
 -- A place is what its words are.
@@ -54,6 +55,15 @@ module _ (ws ws′ : List ℕ) (i : ℕ) (same : (k : ℕ) → k < placeWords �
 
   live-same : liveAt ws i ≡ liveAt ws′ i
   live-same = rw first-same
+
+-- A pair is read from the words of its place, and whether it is live from its protocol.
+pair-from : (ws : List ℕ) (i : ℕ) → pairAt ws i ≡ pairAt (drop (i * placeWords) ws) 0
+unfolding pairAt valueAt
+pair-from ws i = simp (getD-drop, add-assoc, add-zero)
+
+pair-live : (ws : List ℕ) (i : ℕ) → ipsec (pairAt ws i .protocol) ≡ liveAt ws i
+unfolding pairAt
+pair-live ws i = refl
 
 -- The pairs of places whose words are the same, and those of two stretches of places.
 pairs-same : (ws ws′ : List ℕ) (i n : ℕ)
@@ -117,7 +127,7 @@ module _ (ws ws′ : List ℕ) (j : ℕ) (h : j < placeCount)
   same-after = pairs-same ws′ ws (suc j) (placeCount - suc j) (λ k p q. same k (λ e. omega arith))
 
 -- A removal takes the pair at its place out, and leaves the others as they are.
-module _ (ws : List ℕ) (protocol spi j : ℕ) (e : placeOf ws protocol spi ≡ At j) (size : length ws ≡ placeCount * placeWords) where
+module _ (ws : List ℕ) (protocol spi j : ℕ) (e : placeOf ws protocol spi ≡ At j) (size : length ws ≡ tableWords) where
   place-in : j < placeCount
   place-in = place-bound ws protocol spi j e
 
@@ -148,7 +158,7 @@ lt-other k j h n = by (decLt j k)
     by (no q) = absurd (n (omega arith))
 
 -- An added pair stands among the others, which are as they were.
-module _ (ws : List ℕ) (p : NewPair) (j : ℕ) (e : freePlace ws ≡ At j) (size : length ws ≡ placeCount * placeWords) where
+module _ (ws : List ℕ) (p : NewPair) (j : ℕ) (e : freePlace ws ≡ At j) (size : length ws ≡ tableWords) where
   free-in : j < placeCount
   free-in = omega (arith, first-bound (freeAt ws) 0 placeCount j e)
 
@@ -156,63 +166,42 @@ module _ (ws : List ℕ) (p : NewPair) (j : ℕ) (e : freePlace ws ≡ At j) (si
   room = omega (arith, free-in)
 
   words-all : placeWords ≤ length (pairWords p)
-  unfolding pairWords
+  unfolding pairWords wordsOfValue
   words-all = lit≤ tt
+
+  -- The words of the place are those of the pair.
+  is-put : putAt ws p (At j) ≡ paste ws (j * placeWords) (pairWords p) placeWords
+  unfolding pairWords wordsOfValue
+  is-put = sets-eq (pairWords p) ws (j * placeWords) room
 
   pub pairs-adding : pairs ws ≡ pairsBefore ws j ++ pairsAfter ws j
   pairs-adding = pairs-without ws j free-in (not-true (liveAt ws j) (first-true (freeAt ws) 0 placeCount j e))
 
-  new-word : (x : ℕ) → x < placeWords → getD (putAt ws p (At j)) (j * placeWords + x) 0 ≡ getD (pairWords p) x 0
-  new-word x l = paste-in ws (pairWords p) (j * placeWords) placeWords room words-all x l
+  new-words : drop (j * placeWords) (putAt ws p (At j)) ≡ pairWords p ++ drop (j * placeWords + placeWords) ws
+  unfolding pairWords wordsOfValue
+  new-words =
+      ap (drop (j * placeWords)) (is-put ∙ append-assoc (take (j * placeWords) ws) (pairWords p) (drop (j * placeWords + placeWords) ws))
+      ∙ drop-at (take (j * placeWords) ws) (pairWords p ++ drop (j * placeWords + placeWords) ws) (j * placeWords) (length-take-le (j * placeWords) ws (omega (arith, room)))
 
-  new-first : getD (putAt ws p (At j)) (j * placeWords) 0 ≡ p .protocol
-  unfolding pairWords
-  new-first = simp add-zero at (new-word 0 (lit< tt))
-
-  new-value : (k : ℕ) → k + 1 < placeWords → valueAt (putAt ws p (At j)) (j * placeWords + k) ≡ valueAt (pairWords p) k
-  unfolding valueAt
-  new-value k l = rw (add-assoc, new-word k (omega arith), new-word (k + 1) l)
-
-  read : List ℕ → Pair
-  read s = record { protocol = p .protocol; spiIn = getD s 1 0; spiOut = getD s 2 0; number = getD s 3 0; ranges = rangesAt s 4 }
-
-  is-read : pairAt (putAt ws p (At j)) j ≡ read (pairWords p)
-  unfolding pairAt read
-  is-read =
-      simp add-assoc
-      (rw (
-        new-first,
-        new-word 1 (lit< tt),
-        new-word 2 (lit< tt),
-        new-word 3 (lit< tt),
-        new-value 4 (lit< tt),
-        new-value 6 (lit< tt),
-        new-value 8 (lit< tt),
-        new-value 10 (lit< tt),
-        new-value 12 (lit< tt),
-        new-value 14 (lit< tt),
-        new-value 16 (lit< tt),
-        new-value 18 (lit< tt),
-        new-value 20 (lit< tt),
-        new-value 22 (lit< tt),
-      ))
+  new-pair : (rest : List ℕ) → pairAt (pairWords p ++ rest) 0 ≡ newPair p
+  unfolding pairAt pairWords valueAt wordsOfValue
+  new-pair rest = simp value-written
 
   is-new : pairAt (putAt ws p (At j)) j ≡ newPair p
-  unfolding read pairWords valueAt
-  is-new = is-read
+  is-new = pair-from (putAt ws p (At j)) j ∙ ap (λ (l : List ℕ). pairAt l 0) new-words ∙ new-pair (drop (j * placeWords + placeWords) ws)
 
   kept : (k : ℕ) → k ≢ j → (x : ℕ) → x < placeWords → getD (putAt ws p (At j)) (k * placeWords + x) 0 ≡ getD ws (k * placeWords + x) 0
   kept k n x l = by (decLt k j)
     where
       by : Dec (k < j) → getD (putAt ws p (At j)) (k * placeWords + x) 0 ≡ getD ws (k * placeWords + x) 0
-      by (yes q) = paste-before ws (pairWords p) (j * placeWords) placeWords room words-all (k * placeWords + x) (omega arith)
+      by (yes q) = rw is-put (paste-before ws (pairWords p) (j * placeWords) placeWords room words-all (k * placeWords + x) (omega arith))
       by (no q) =
           let o : j < k = lt-other k j q n in
-          paste-after ws (pairWords p) (j * placeWords) placeWords room words-all (k * placeWords + x) (omega arith)
+          rw is-put (paste-after ws (pairWords p) (j * placeWords) placeWords room words-all (k * placeWords + x) (omega arith))
 
   pub pairs-added : ipsec (p .protocol) ≡ true → pairs (putAt ws p (At j)) ≡ pairsBefore ws j ++ newPair p ∷ pairsAfter ws j
   pairs-added l =
-      pairs-with (putAt ws p (At j)) j free-in (rw new-first l)
+      pairs-with (putAt ws p (At j)) j free-in (sym (pair-live (putAt ws p (At j)) j) ∙ rw is-new l)
       ∙ rw (same-before ws (putAt ws p (At j)) j free-in kept, same-after ws (putAt ws p (At j)) j free-in kept, is-new)
 
 -- The table after any addition: a refusal changes nothing, and where the pair is taken it stands among the others.
@@ -242,10 +231,10 @@ module _ (ws : List ℕ) (p : NewPair) where
       by false true v true f g e = let z : _≡_ {A = ℕ} 0 1 = cc in absurd (omega arith)
       by false true v false true g e = let z : _≡_ {A = ℕ} 0 1 = cc in absurd (omega arith)
       by false true v false false g e =
-          let a = both-true _ (rangesIn p) v .0 in
-          (both-true (ipsec (p .protocol)) _ (both-true _ (leb (p .number) 255) a .0) .0, g)
+          let a = both-true _ (rangesIn (p .ranges)) v .0 in
+          (both-true (ipsec (p .protocol)) _ (both-true _ (leb (p .number) lastNumber) a .0) .0, g)
 
-  module _ (size : length ws ≡ placeCount * placeWords) where
+  module _ (size : length ws ≡ tableWords) where
     pub pairs-after-add : addOutcome (pairs ws) p ≡ Done
         → (j : ℕ) × (pairs ws ≡ pairsBefore ws j ++ pairsAfter ws j) × (pairs (added ws p) ≡ pairsBefore ws j ++ newPair p ∷ pairsAfter ws j)
     unfolding added
@@ -256,15 +245,15 @@ module _ (ws : List ℕ) (p : NewPair) where
         by (At j) f = (j, pairs-adding ws p j f size, rw (e, f) (pairs-added ws p j f size (done-free e .0)))
         by Nowhere f = absurd (omega (arith, leb-false placeCount (length (pairs ws)) (done-free e .1), none-free ws 0 placeCount f))
 
-    pub size-after-add : length (added ws p) ≡ placeCount * placeWords
+    pub size-after-add : length (added ws p) ≡ tableWords
     unfolding added
     size-after-add = by (addOutcome (pairs ws) p)
       where
-        put : (f : Place) → freePlace ws ≡ f → length (putAt ws p f) ≡ placeCount * placeWords
-        put (At j) f = length-paste ws (j * placeWords) (pairWords p) placeWords (room ws p j f size) (words-all ws p j f size) ∙ size
+        put : (f : Place) → freePlace ws ≡ f → length (putAt ws p f) ≡ tableWords
+        put (At j) f = length-sets ws (j * placeWords) (pairWords p) ∙ size
         put Nowhere f = size
 
-        by : (o : Outcome) → length (addedIf ws p o) ≡ placeCount * placeWords
+        by : (o : Outcome) → length (addedIf ws p o) ≡ tableWords
         by Done = put (freePlace ws) refl
         by ReservedSpi = size
         by AlreadyLive = size
@@ -273,7 +262,7 @@ module _ (ws : List ℕ) (p : NewPair) where
         by NothingToRemove = size
 
 -- And after any removal.
-module _ (ws : List ℕ) (protocol spi : ℕ) (size : length ws ≡ placeCount * placeWords) where
+module _ (ws : List ℕ) (protocol spi : ℕ) (size : length ws ≡ tableWords) where
   pub pairs-after-remove : removeOutcome (pairs ws) protocol spi ≡ Done
       → (j : ℕ) × (named protocol spi (pairAt ws j) ≡ true) × (pairs ws ≡ pairsBefore ws j ++ pairAt ws j ∷ pairsAfter ws j)
       × (pairs (removed ws protocol spi) ≡ pairsBefore ws j ++ pairsAfter ws j)
@@ -299,10 +288,10 @@ module _ (ws : List ℕ) (protocol spi : ℕ) (size : length ws ≡ placeCount *
           absurd (omega arith)
       by Nowhere f = sym (removed-none ws protocol spi f .1)
 
-  pub size-after-remove : length (removed ws protocol spi) ≡ placeCount * placeWords
+  pub size-after-remove : length (removed ws protocol spi) ≡ tableWords
   unfolding removed
   size-after-remove = by (placeOf ws protocol spi)
     where
-      by : (f : Place) → length (clearedAt ws f) ≡ placeCount * placeWords
+      by : (f : Place) → length (clearedAt ws f) ≡ tableWords
       by (At j) = length-set ws (j * placeWords) 0 ∙ size
       by Nowhere = size

@@ -13,8 +13,7 @@ use Rattle.packet.specs.declared.Reading.the-variants.{Readable, Unreadable}
 use Rattle.policy.specs.Policy.{PolicyRow, matches, orderedSearch, bothWays}
 use Rattle.policy_text.specs.Editions.{Policy, refused, rows, parsePolicy}
 use Rattle.decorrelate.specs.Form.{form}
-use Rattle.spd_cache.specs.Cache.{slotCount}
-use Rattle.spd_cache.specs.SlotLaws.{replaced}
+use Rattle.spd_cache.specs.Cache.{slotCount, replaced}
 use Rattle.spd.specs.Spd.{accepting, ifAccepted}
 use Rattle.sad.specs.declared.NewPair.{NewPair}
 use Rattle.sad.specs.declared.Outcome.{Outcome}

@@ -14,9 +14,9 @@ use Rattle.policy.specs.Policy.{PolicyRow, matches, matchFrom, bothWays}
 use Rattle.policy.specs.Words.{rowAt, rowsFrom, rowWords, policyRows}
 use Rattle.decorrelate.specs.Form.{form}
 use Rattle.spd_cache.specs.declared.Cache.{Cache}
-use Rattle.spd_cache.specs.Cache.{slotCount, emptyCache, inUse, cached, turn, stored, lookedUp}
+use Rattle.spd_cache.specs.Cache.{slotCount, emptyCache, inUse, cached, turn, stored, lookedUp, replaced}
 use Rattle.spd_cache.specs.CacheLaws.{row-bound, lookup-hit, lookup-miss, lookup-none}
-use Rattle.spd_cache.specs.SlotLaws.{Filled, replaced, empty-cached, stored-rows}
+use Rattle.spd_cache.specs.SlotLaws.{Filled, empty-cached, stored-rows}
 use Rattle.spd.specs.Spd.{emptyCaches}
 use Rattle.spd_words.specs.Words.{addressOf, rowsOf}
 use Rattle.sequences.specs.Sequence.{Gateway, Call, fresh, after, run}

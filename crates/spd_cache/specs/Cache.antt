@@ -1,6 +1,6 @@
 -- The cache of one direction (document 01, 'Cache and associations'). Assumes nothing: these are definitions.
 use Prim.Native.Nat.{ℕ, _+_, _*_, _%_, min, max}
-use mathlib.Core.List.{List}
+use mathlib.Core.List.{List, _∷_, _++_}
 use lib.ListN.{getD, take, drop, replicate}
 use lib.Seq.{paste}
 use Rattle.selectors.specs.declared.Direction.{Direction}
@@ -17,9 +17,13 @@ use Rattle.spd_cache.specs.declared.Looked.{Looked}
 abbrev pub slotCount : ℕ
 slotCount = 32
 
+-- The words of all slots.
+abbrev pub slotsWords : ℕ
+slotsWords = slotCount * rowWords
+
 -- 'A fresh gate holds … empty caches'; 'an accepted policy empties both caches, sets both turns to the first slot'.
 abbrev pub emptyCache : Cache
-emptyCache = record { words = replicate (slotCount * rowWords) 0; count = 0; next = 0 }
+emptyCache = record { words = replicate slotsWords 0; count = 0; next = 0 }
 
 -- The words of the slots in use: the first ones, as many as the count says, and never more than there are.
 abbrev pub usedWords : List ℕ → ℕ → List ℕ
@@ -68,3 +72,7 @@ tried c rows Nothing found = missed c rows found
 -- A lookup: the slots first, and then the rows.
 unfoldable pub lookedUp : Cache → List ℕ → Direction → List ℕ → Looked
 lookedUp c rows d vs = tried c rows (matchFrom 0 d (cached c) vs) (matchFrom 0 d (policyRows rows) vs)
+
+-- The rows with the row of one slot replaced; the slot may be the next after the last.
+abbrev pub replaced : List PolicyRow → ℕ → PolicyRow → List PolicyRow
+replaced rs slot r = take slot rs ++ r ∷ drop (slot + 1) rs

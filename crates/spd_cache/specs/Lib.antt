@@ -1,3 +1,5 @@
 pub mod Cache
 pub mod CacheLaws
 pub mod SlotLaws
+pub mod Lent
+pub mod LentLaws

@@ -20,7 +20,7 @@ use Rattle.policy.specs.WordsLaws.{actionFound, search-match}
 use Rattle.policy.specs.RowsLaws.{row-same, rows-same, front-rows}
 use Rattle.spd_cache.specs.declared.Cache.{Cache}
 use Rattle.spd_cache.specs.declared.Looked.{Looked}
-use Rattle.spd_cache.specs.Cache.{slotCount, emptyCache, inUse, cached, turn, put, stored, lookedUp}
+use Rattle.spd_cache.specs.Cache.{slotCount, slotsWords, emptyCache, inUse, cached, turn, put, stored, lookedUp, replaced}
 use Rattle.spd_cache.specs.CacheLaws.{row-bound, lookup-hit, lookup-miss, lookup-none}
 
 -- The rows from one place on, in pieces.
@@ -49,21 +49,17 @@ split-rows ws i (suc n) m =
 
 -- The slots are filled from the first on: those in use are the first `count`, and the turn is at one of them or at the next.
 pub record Filled (c : Cache) : Type 0 where
-  pub size : length (c .words) ≡ slotCount * rowWords
+  pub size : length (c .words) ≡ slotsWords
   pub limit : c .count ≤ slotCount
   pub turn-below : c .next < slotCount
   pub turn-next : c .next ≤ c .count
 
 pub empty-filled : Filled emptyCache
-empty-filled = record { size = length-replicate {A = ℕ} (slotCount * rowWords) 0; limit = omega arith; turn-below = omega arith; turn-next = omega arith }
+empty-filled = record { size = length-replicate {A = ℕ} (slotsWords) 0; limit = omega arith; turn-below = omega arith; turn-next = omega arith }
 
 pub empty-cached : cached emptyCache ≡ []
 unfolding rowsFrom
 empty-cached = refl
-
--- The rows with the row of one slot replaced; the slot may be the next after the last.
-abbrev pub replaced : List PolicyRow → ℕ → PolicyRow → List PolicyRow
-replaced rs slot r = take slot rs ++ r ∷ drop (slot + 1) rs
 
 replaced-mem : (rs : List PolicyRow) (slot : ℕ) (q r : PolicyRow) → List·Memᴰ r (replaced rs slot q) → List·Memᴰ r rs ⊎ (r ≡ q)
 replaced-mem rs slot q r m =

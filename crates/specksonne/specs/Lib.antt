@@ -1,2 +1,3 @@
-pub mod Fresh
+pub mod Lent
 pub mod Sizes
+pub mod FreshLaws

@@ -1,25 +1,15 @@
--- What the library says of itself: the number of its binary interface, its version, and the sizes of what is lent. Assumes nothing: these are
--- definitions, and that an empty cache has as many words.
+-- What the library says of itself: the number of its binary interface, its version, and the sizes of what is lent. Assumes nothing: these
+-- are definitions.
 use Prim.Native.Nat.{ℕ, _+_, _*_}
-use mathlib.Core.Path.{_≡_, refl}
 use lib.ListN.{length}
-use Rattle.policy.specs.Words.{rowWords, rowLimit}
+use Rattle.policy.specs.Words.{rowLimit}
 use Rattle.policy_text.specs.Edition1.{header}
-use Rattle.sad.specs.Pairs.{placeCount, placeWords}
-use Rattle.spd_cache.specs.Cache.{slotCount, emptyCache}
-use Rattle.cache_in_place.specs.Lent.{cacheWords}
 
 abbrev pub abiNumber : ℕ
 abiNumber = 1
 
 abbrev pub versionNumber : ℕ → ℕ → ℕ → ℕ
 versionNumber major minor patch = major * 1000000 + minor * 1000 + patch
-
-abbrev pub tableSize : ℕ
-tableSize = placeCount * placeWords
-
-abbrev pub cacheSize : ℕ
-cacheSize = slotCount * rowWords + 2
 
 -- Bytes that are enough for a printed row; counted, not proved: two ranges of addresses of 31, two of ports of 12, one of protocols of 7, an
 -- action of 11, a direction of 3, six tabs and LF make 114.
@@ -28,7 +18,3 @@ rowBytes = 120
 
 abbrev pub mostFormBytes : ℕ
 mostFormBytes = length header + rowLimit * rowBytes
-
-pub cache-size : length (cacheWords emptyCache) ≡ cacheSize
-unfolding cacheWords
-cache-size = refl

@@ -3,6 +3,7 @@ ghost use mathlib.Core.Path.{_≡_};
 ghost use mathlib.Core.List.{[], map};
 ghost use lib.ListN.{length, replicate};
 ghost use Rattle.selectors.specs.Value.{combination};
+ghost use Rattle.selectors.specs.Words.{selectorsOf};
 ghost use Rattle.packet.specs.Read.{readPacket};
 ghost use Rattle.policy.specs.Policy.{orderedSearch, matchFrom};
 ghost use Rattle.policy.specs.Words.{policyRows, rowWords, rowLimit, rowOf};
@@ -13,31 +14,28 @@ ghost use Rattle.normaliser.specs.Normalise.{normalised, normalisedBytes, norma
 ghost use Rattle.same_policy.specs.Same.{compared, comparedNumber};
 ghost use Rattle.spd.specs.Spd.{spdWords, accepting, spdAfter, cachesAfter, acceptanceNumber, acceptanceCarries};
 ghost use Rattle.spd_words.specs.Words.{addressOf, rowsOf, spdSize};
-ghost use Rattle.sad.specs.Pairs.{pairs, live, addOutcome, added, removeOutcome, removed, outcomeNumber};
+ghost use Rattle.sad.specs.Pairs.{tableWords, pairs, live, addOutcome, added, removeOutcome, removed, outcomeNumber};
 ghost use Rattle.spd_cache.specs.Cache.{emptyCache};
 ghost use Rattle.verdicts.specs.Calls.{fromSaBy};
 ghost use Rattle.gateway.specs.Cached.{outboundCached, inboundCached};
 ghost use Rattle.verdicts.specs.Verdict.{verdictNumber, carried};
-ghost use Rattle.cache_in_place.specs.Lent.{cacheFrom, cacheWords};
+ghost use Rattle.spd_cache.specs.Lent.{cacheSize, cacheFrom, cacheWords};
 ghost use Rattle.answer_numbers.specs.Carries.{parsedCarries, printedCarries, comparedWords};
-ghost use Rattle.abi.specs.Words.{directionFrom, selectorsFrom, pairFrom, actionKind, actionNumber, isFound, placeFound, isReadable, readingWords, triggerWords};
-ghost use Rattle.specksonne.specs.Fresh.{cachesFrom};
-ghost use Rattle.specksonne.specs.Sizes.{abiNumber, versionNumber, tableSize, cacheSize, mostFormBytes};
+ghost use Rattle.abi.specs.Words.{directionFrom, pairFrom, actionKind, actionNumber, isFound, placeFound, isReadable, readingWords, triggerWords};
+ghost use Rattle.specksonne.specs.Lent.{cachesFrom};
+ghost use Rattle.specksonne.specs.Sizes.{abiNumber, versionNumber, mostFormBytes};
 use packet::Reading;
 use policy::LIMIT;
 use policy::ROW_WORDS;
 use policy::Row;
-use sad::PLACE_WORDS;
-use sad::PLACES;
+use sad::TABLE_WORDS;
 use selectors::Direction;
+use selectors::words::RANGES_WORDS;
+use selectors::words::SELECTOR_WORDS;
 use spd::Caches;
-use spd_cache::SLOTS;
+use spd_cache::lent;
+use spd_cache::lent::CACHE_WORDS;
 use spd_words::SPD_WORDS;
-
-// The words of the table of pairs, and of a cache: the slots' rows, the count of slots in use, the slot that is next.
-const TABLE_WORDS: usize = PLACES * PLACE_WORDS;
-
-const CACHE_WORDS: usize = SLOTS * ROW_WORDS + 2;
 
 // Bytes that are enough for a printed row, and for a normal-form file: its header line and the limit's rows.
 const ROW_BYTES: usize = 120;
@@ -80,7 +78,7 @@ pub extern "C" fn specksonne_policy_words() -> usize
 // The words of the table of pairs.
 #[no_mangle]
 pub extern "C" fn specksonne_table_words() -> usize
-    ensures { λ r. ⌜ r ≡ tableSize ⌝ }
+    ensures { λ r. ⌜ r ≡ tableWords ⌝ }
 {
     TABLE_WORDS
 }
@@ -127,15 +125,15 @@ pub extern "C" fn specksonne_fresh(
     address: u32,
 )
     ensures { λ _. ⌜ now (policy .exit) ≡ spdWords rowLimit address [] ⌝ }
-    ensures { λ _. ⌜ (now (table .exit) ≡ replicate tableSize 0) × (pairs (now (table .exit)) ≡ []) ⌝ }
+    ensures { λ _. ⌜ (now (table .exit) ≡ replicate tableWords 0) × (pairs (now (table .exit)) ≡ []) ⌝ }
     ensures { λ _. ⌜ (now (outbound .exit) ≡ cacheWords emptyCache) × (now (inbound .exit) ≡ cacheWords emptyCache) ⌝ }
 {
     let caches = spd::fresh(policy, address);
     *table = [0; TABLE_WORDS];
     let empty_out = caches.outbound;
-    cache_in_place::save(outbound, empty_out);
+    lent::save(outbound, empty_out);
     let empty_in = caches.inbound;
-    cache_in_place::save(inbound, empty_in);
+    lent::save(inbound, empty_in);
 }
 
 // Hands a policy file to the gateway (`spd::accept`).
@@ -154,34 +152,38 @@ pub extern "C" fn specksonne_policy(
     ensures { λ _. ⌜ now (carries .exit) ≡ acceptanceCarries (accepting rowLimit (parsePolicy rowLimit (now (bytes .entry)))) ⌝ }
 {
     let before = Caches {
-        outbound: cache_in_place::load(outbound),
-        inbound: cache_in_place::load(inbound),
+        outbound: lent::load(outbound),
+        inbound: lent::load(inbound),
     };
     let settled = spd::accept(policy, before, bytes);
     let acceptance = settled.acceptance;
     let after = settled.caches;
     let after_out = after.outbound;
-    cache_in_place::save(outbound, after_out);
+    lent::save(outbound, after_out);
     let after_in = after.inbound;
-    cache_in_place::save(inbound, after_in);
+    lent::save(inbound, after_in);
     *carries = answer_numbers::acceptance_carries(acceptance);
     answer_numbers::acceptance_number(acceptance)
 }
 
 // Whether a packet is readable, and its five selectors (`packet::read`).
 #[no_mangle]
-pub extern "C" fn specksonne_read(direction: u64, bytes: &[u8], selectors: &mut [u64; 10]) -> bool
+pub extern "C" fn specksonne_read(
+    direction: u64,
+    bytes: &[u8],
+    selectors: &mut [u64; SELECTOR_WORDS],
+) -> bool
     ensures { λ r. ⌜ r ≡ isReadable (readPacket (directionFrom direction) (now (bytes .entry))) ⌝ }
     ensures { λ _. ⌜ now (selectors .exit) ≡ readingWords (readPacket (directionFrom direction) (now (bytes .entry))) ⌝ }
 {
     let reading = packet::read(bytes, abi::direction_from(direction));
     match reading {
         Reading::Readable(packet) => {
-            *selectors = policy::selector_words(packet.selectors);
+            *selectors = selectors::words::selector_words(packet.selectors);
             true
         }
         Reading::Unreadable => {
-            *selectors = [0; 10];
+            *selectors = [0; SELECTOR_WORDS];
             false
         }
     }
@@ -211,13 +213,13 @@ pub extern "C" fn specksonne_trigger(bytes: &[u8], part: &mut [u64; 2]) -> bool
 pub extern "C" fn specksonne_search(
     rows: &[u64],
     direction: u64,
-    selectors: &[u64; 10],
+    selectors: &[u64; SELECTOR_WORDS],
     number: &mut u64,
 ) -> u64
-    ensures { λ r. ⌜ r ≡ actionKind (orderedSearch (directionFrom direction) (policyRows (now (rows .entry))) (combination (selectorsFrom (now (selectors .entry))))) ⌝ }
-    ensures { λ _. ⌜ now (number .exit) ≡ actionNumber (orderedSearch (directionFrom direction) (policyRows (now (rows .entry))) (combination (selectorsFrom (now (selectors .entry))))) ⌝ }
+    ensures { λ r. ⌜ r ≡ actionKind (orderedSearch (directionFrom direction) (policyRows (now (rows .entry))) (combination (selectorsOf (now (selectors .entry))))) ⌝ }
+    ensures { λ _. ⌜ now (number .exit) ≡ actionNumber (orderedSearch (directionFrom direction) (policyRows (now (rows .entry))) (combination (selectorsOf (now (selectors .entry))))) ⌝ }
 {
-    let values = abi::selectors_from(selectors);
+    let values = selectors::words::selectors_of(selectors);
     let action = policy::search(rows, abi::direction_from(direction), values);
     *number = abi::action_number(action);
     abi::action_kind(action)
@@ -228,16 +230,16 @@ pub extern "C" fn specksonne_search(
 pub extern "C" fn specksonne_search_records(
     rows: &[Row],
     direction: u64,
-    selectors: &[u64; 10],
+    selectors: &[u64; SELECTOR_WORDS],
     number: &mut u64,
 ) -> u64
-    ensures { λ r. ⌜ r ≡ actionKind (orderedSearch (directionFrom direction) (map rowOf (now (rows .entry))) (combination (selectorsFrom (now (selectors .entry))))) ⌝ }
-    ensures { λ _. ⌜ now (number .exit) ≡ actionNumber (orderedSearch (directionFrom direction) (map rowOf (now (rows .entry))) (combination (selectorsFrom (now (selectors .entry))))) ⌝ }
+    ensures { λ r. ⌜ r ≡ actionKind (orderedSearch (directionFrom direction) (map rowOf (now (rows .entry))) (combination (selectorsOf (now (selectors .entry))))) ⌝ }
+    ensures { λ _. ⌜ now (number .exit) ≡ actionNumber (orderedSearch (directionFrom direction) (map rowOf (now (rows .entry))) (combination (selectorsOf (now (selectors .entry))))) ⌝ }
 {
     let action = row_records::search(
         rows,
         abi::direction_from(direction),
-        abi::selectors_from(selectors),
+        selectors::words::selectors_of(selectors),
     );
     *number = abi::action_number(action);
     abi::action_kind(action)
@@ -248,13 +250,13 @@ pub extern "C" fn specksonne_search_records(
 pub extern "C" fn specksonne_first_match(
     rows: &[u64],
     direction: u64,
-    selectors: &[u64; 10],
+    selectors: &[u64; SELECTOR_WORDS],
     place: &mut u64,
 ) -> bool
-    ensures { λ r. ⌜ r ≡ isFound (matchFrom 0 (directionFrom direction) (policyRows (now (rows .entry))) (combination (selectorsFrom (now (selectors .entry))))) ⌝ }
-    ensures { λ _. ⌜ now (place .exit) ≡ placeFound (matchFrom 0 (directionFrom direction) (policyRows (now (rows .entry))) (combination (selectorsFrom (now (selectors .entry))))) ⌝ }
+    ensures { λ r. ⌜ r ≡ isFound (matchFrom 0 (directionFrom direction) (policyRows (now (rows .entry))) (combination (selectorsOf (now (selectors .entry))))) ⌝ }
+    ensures { λ _. ⌜ now (place .exit) ≡ placeFound (matchFrom 0 (directionFrom direction) (policyRows (now (rows .entry))) (combination (selectorsOf (now (selectors .entry))))) ⌝ }
 {
-    let values = abi::selectors_from(selectors);
+    let values = selectors::words::selectors_of(selectors);
     let found = policy::first_match(rows, abi::direction_from(direction), values);
     *place = abi::place_found(found);
     abi::is_found(found)
@@ -330,7 +332,7 @@ pub extern "C" fn specksonne_add(
     spi_in: u32,
     spi_out: u32,
     number: u64,
-    ranges: &[u64; 20],
+    ranges: &[u64; RANGES_WORDS],
 ) -> u64
     ensures { λ r. ⌜ r ≡ outcomeNumber (addOutcome (pairs (now (table .entry))) (pairFrom protocol «spi_in» «spi_out» number (now (ranges .entry)))) ⌝ }
     ensures { λ _. ⌜ now (table .exit) ≡ added (now (table .entry)) (pairFrom protocol «spi_in» «spi_out» number (now (ranges .entry))) ⌝ }

@@ -13,7 +13,7 @@ use Rattle.packet.specs.Read.{readPacket, readTrigger, triggerOf, icmpError}
 use Rattle.packet.specs.declared.Packet.{Packet}
 use Rattle.packet.specs.declared.Reading.{Reading}
 use Rattle.packet.specs.declared.Reading.the-variants.{Readable, Unreadable}
-use Rattle.sad.specs.Pairs.{Pair, live, fitting, pairFor}
+use Rattle.sad.specs.Pairs.{espProtocol, ahProtocol, Pair, live, fitting, pairFor}
 use Rattle.sad.specs.declared.PairFound.{PairFound}
 use Rattle.sad.specs.declared.PairFound.the-variants.{Found, Nothing}
 use Rattle.verdicts.specs.declared.Verdict.{Verdict}
@@ -42,13 +42,7 @@ outboundRead search pairs Unreadable = NotReadable
 unfoldable pub outboundBy : (List ℕ → Action) → List Pair → List ℕ → Verdict
 outboundBy search pairs p = outboundRead search pairs (readPacket Out p)
 
--- The protocols of ESP and AH, the fewest bytes that their upper parts have, and where in it AH's SPI stands.
-abbrev pub espProtocol : ℕ
-espProtocol = 50
-
-abbrev pub ahProtocol : ℕ
-ahProtocol = 51
-
+-- The fewest bytes that the upper parts of ESP and AH have, and where in it AH's SPI stands.
 abbrev pub espBytes : ℕ
 espBytes = 8
 

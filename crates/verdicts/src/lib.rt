@@ -5,6 +5,7 @@ ghost use Rattle.sad.specs.Pairs.{pairs};
 ghost use Rattle.verdicts.specs.Calls.{outboundAction, inboundAction};
 use policy::Action;
 use sad::PairFound;
+use sad::TABLE_WORDS;
 use selectors::Selectors;
 
 pub enum Verdict {
@@ -38,7 +39,7 @@ pub enum Verdict {
     TriggerDoesNotFit,
 }
 
-fn protect(table: &[u64; 1536], selectors: Selectors, number: u64) -> Verdict
+fn protect(table: &[u64; TABLE_WORDS], selectors: Selectors, number: u64) -> Verdict
     ensures { λ r. ⌜ r ≡ outboundAction (pairs (now (table .entry))) (combination selectors) (Action.Protect number) ⌝ }
 {
     let found = sad::pair_for(table, number, selectors);
@@ -49,7 +50,7 @@ fn protect(table: &[u64; 1536], selectors: Selectors, number: u64) -> Verdict
 }
 
 // What the action for a packet going out gives.
-pub fn outbound_action(table: &[u64; 1536], selectors: Selectors, action: Action) -> Verdict
+pub fn outbound_action(table: &[u64; TABLE_WORDS], selectors: Selectors, action: Action) -> Verdict
     ensures { λ r. ⌜ r ≡ outboundAction (pairs (now (table .entry))) (combination selectors) action ⌝ }
 {
     match action {

@@ -80,7 +80,8 @@ fn kinds_of(cited: &Cited, file: &str) -> Vec<&'static str> {
         }
         (path, _) if path.contains("/must-fail/") => vec!["refused"],
         (path, Some(_)) if path.ends_with("src/main.rt") => vec!["run"],
-        (path, Some(name)) if path.ends_with("src/lib.rt") => {
+        // A library's lib.rt and its modules.
+        (path, Some(name)) if path.ends_with(".rt") => {
             let function = name.contains("fn ") || file.contains(&format!("fn {name}("));
             vec![if function { "proved" } else { "code" }, "code"]
         }

@@ -4,8 +4,8 @@ use denote.Ref.{now}
 use Rattle.selectors.specs.declared.Direction.the-variants.{In}
 use Rattle.packet.specs.Read.{readPacket}
 use Rattle.packet.specs.declared.Reading.the-variants.{Readable}
-use Rattle.cache_in_place.specs.Lent.{cacheFrom, cacheWords}
-use Rattle.cache_in_place.specs.LentLaws.{cache-kept}
+use Rattle.spd_cache.specs.Lent.{cacheFrom, cacheWords}
+use Rattle.spd_cache.specs.LentLaws.{cache-kept}
 use Rattle.verdicts.specs.Calls.{inboundBy}
 use Rattle.own_ipsec.specs.OwnLaws.{own-answered, not-own}
 use Rattle.gateway.specs.Cached.{inboundCached}

@@ -1,7 +1,7 @@
 -- `gateway_in_place::outbound` meets its contract: a packet that is not readable, or the answer of the search. Assumes nothing.
 use mathlib.Core.Path.{refl, sym, _∙_}
 use denote.Ref.{now}
-use Rattle.cache_in_place.specs.LentLaws.{cache-kept}
+use Rattle.spd_cache.specs.LentLaws.{cache-kept}
 use Rattle.verdicts.specs.Calls.{outboundBy}
 use Rattle.gateway.specs.Cached.{outboundCached}
 use borrow.Author.Needs.{needs}

@@ -1,14 +1,15 @@
 -- `gateway_script::empty` is safe and ends: the measure is what is left of the table. Assumes nothing.
 use Prim.Native.Nat.{_-_, _≤_}
+use Rattle.sad.specs.Pairs.{tableWords}
 use borrow.Author.Needs.{needs}
 use Rattle.gateway_script.proofs.empty.Statement.{statement}
 use Rattle.gateway_script.proofs.empty.Tie as tie
 
 abbrev Inv-loop : tie.InvT-loop
-Inv-loop table₀ i₀ table i = i ≤ 1536
+Inv-loop table₀ i₀ table i = i ≤ tableWords
 
 abbrev μ-loop : tie.MeasureT-loop
-μ-loop table₀ i₀ table i = 1536 - i
+μ-loop table₀ i₀ table i = tableWords - i
 
 loop-holds : tie.Need-loop-holds Inv-loop μ-loop
 loop-holds c = search needs

@@ -1,7 +1,7 @@
 -- `sad::is_better` meets its contract: nothing to beat, the same inbound SPI, or another. Assumes nothing.
 use Rattle.sad.specs.PairsLaws.{before-tied, before-other}
 use denote.Ref.{now}
-use Rattle.sad.specs.Pairs.{pairAt, before, chosen}
+use Rattle.sad.specs.Pairs.{placeCount, pairAt, before, chosen}
 use borrow.Author.Tests.{lt-ltb, le-ltb}
 use borrow.Author.Needs.{needs}
 use Rattle.sad.proofs.is_better.Statement.{statement}
@@ -9,7 +9,7 @@ use Rattle.sad.proofs.is_better.Tie as tie
 
 returns : tie.Need-returns
 unfolding chosen
-returns c = rw (le-ltb _ 64 (c .if1 .taken))
+returns c = rw (le-ltb _ placeCount (c .if1 .taken))
 
 mul-at : tie.Need-mul-at
 mul-at c = search needs
@@ -51,7 +51,7 @@ returns-2 : tie.Need-returns-2
 unfolding pairAt chosen
 returns-2 c =
     let a = c .before .before .before .before .before .before .args in
-    rw (lt-ltb _ 64 (c .before .before .before .before .before .if1 .left)) (before-tied (pairAt (now (a .table)) (a .place)) (pairAt (now (a .table)) (a .best)) (c .before .before .if2 .taken))
+    rw (lt-ltb _ placeCount (c .before .before .before .before .before .if1 .left)) (before-tied (pairAt (now (a .table)) (a .place)) (pairAt (now (a .table)) (a .best)) (c .before .before .if2 .taken))
 
 add-result : tie.Need-add-result
 add-result c = search needs
@@ -75,7 +75,7 @@ returns-3 : tie.Need-returns-3
 unfolding pairAt chosen
 returns-3 c =
     let a = c .before .before .before .before .before .before .args in
-    rw (lt-ltb _ 64 (c .before .before .before .before .before .if1 .left)) (before-other (pairAt (now (a .table)) (a .place)) (pairAt (now (a .table)) (a .best)) (c .before .before .if2 .left))
+    rw (lt-ltb _ placeCount (c .before .before .before .before .before .if1 .left)) (before-other (pairAt (now (a .table)) (a .place)) (pairAt (now (a .table)) (a .best)) (c .before .before .if2 .left))
 
 pub is-better-spec : {M : Type 1} → statement M
 is-better-spec =

@@ -1,5 +1,5 @@
 -- `sad::is_well_formed` meets its contract: protocol, number and ranges one after the other. Assumes nothing.
-use Rattle.sad.specs.Pairs.{wellFormed}
+use Rattle.sad.specs.Pairs.{lastNumber, wellFormed}
 use borrow.Author.Tests.{not-true, not-false, le-leb, lt-leb}
 use mathlib.Core.Path.{sym, _∙_}
 use borrow.Author.Needs.{needs}
@@ -19,16 +19,16 @@ returns-2 c = rw (sym (c .before .before .before .is-ipsec .ensures) ∙ not-fal
 
 returns-3 : tie.Need-returns-3
 unfolding wellFormed
-returns-3 c = rw (sym (c .before .before .before .before .before .is-ipsec .ensures) ∙ not-false _ (c .before .before .before .before .if1 .left), le-leb 1 _ (c .before .before .if2 .left), lt-leb _ 255 (c .if3 .taken))
+returns-3 c = rw (sym (c .before .before .before .before .before .is-ipsec .ensures) ∙ not-false _ (c .before .before .before .before .if1 .left), le-leb 1 _ (c .before .before .if2 .left), lt-leb _ lastNumber (c .if3 .taken))
 
-has-ranges-requires : tie.Need-has-ranges-requires
-has-ranges-requires c κs = search needs
+are-ranges-requires : tie.Need-are-ranges-requires
+are-ranges-requires c κs = search needs
 
 returns-4 : tie.Need-returns-4
 unfolding wellFormed
-returns-4 c = rw (sym (c .before .before .before .before .before .before .is-ipsec .ensures) ∙ not-false _ (c .before .before .before .before .before .if1 .left), le-leb 1 _ (c .before .before .before .if2 .left), le-leb _ 255 (c .before .if3 .left)) (c .has-ranges .ensures)
+returns-4 c = rw (sym (c .before .before .before .before .before .before .is-ipsec .ensures) ∙ not-false _ (c .before .before .before .before .before .if1 .left), le-leb 1 _ (c .before .before .before .if2 .left), le-leb _ lastNumber (c .before .if3 .left)) (c .are-ranges .ensures)
 
 pub is-well-formed-spec : {M : Type 1} → statement M
 is-well-formed-spec =
     tie.close
-    (tie.spec is-ipsec-requires returns returns-2 returns-3 has-ranges-requires returns-4)
+    (tie.spec is-ipsec-requires returns returns-2 returns-3 are-ranges-requires returns-4)

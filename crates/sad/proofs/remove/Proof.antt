@@ -1,4 +1,5 @@
 -- `sad::remove` meets its contract: the place of the pair, if it has one. Assumes nothing.
+use Rattle.sad.specs.Pairs.{placeCount}
 use Rattle.sad.specs.PairsLaws.{place-bound, removed-none, removed-at}
 use Prim.Native.Nat.{_<_}
 use denote.Ref.{now}
@@ -8,7 +9,7 @@ use Rattle.sad.proofs.remove.Statement.{statement}
 use Rattle.sad.proofs.remove.Tie as tie
 
 -- The place found is one of the 64.
-found-place : (c : tie.After-known-told) → c .before .found .given .0 .0 < 64
+found-place : (c : tie.After-known-told) → c .before .found .given .0 .0 < placeCount
 found-place c =
     let a = c .before .before .before .before .before .args in
     place-bound (now (a .table)) (a .protocol) (a .spi-in) _ (sym (c .before .before .before .place-of .ensures) ∙ c .before .found .given .1)

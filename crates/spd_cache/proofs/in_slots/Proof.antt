@@ -13,13 +13,13 @@ mul-used : tie.Need-mul-used
 mul-used c = search needs
 
 slice-aggregate-first-match : tie.Need-slice-aggregate-first-match
-slice-aggregate-first-match c = simp length-take (omega (arith, c .before .before .capped .ensures, c .before .all .given .0))
+slice-aggregate-first-match c = simp length-take (omega (arith, c .before .capped .ensures, c .before .before .before .pre))
 
 first-match-requires : tie.Need-first-match-requires
 first-match-requires c κs = search needs
 
 returns : tie.Need-returns
-returns c = c .first-match .ensures ∙ rw (c .before .before .before .capped .ensures)
+returns c = c .first-match .ensures ∙ rw (c .before .before .capped .ensures)
 
 pub in-slots-spec : {M : Type 1} → statement M
 in-slots-spec =

@@ -1,8 +1,8 @@
 -- `specksonne::specksonne_fresh` meets its contract: the policy without rows, zeros, and empty caches. Assumes nothing.
 use mathlib.Core.Path.{refl, ap, _∙_}
 use Rattle.spd.specs.declared.Caches.{Caches}
-use Rattle.cache_in_place.specs.Lent.{cacheWords}
-use Rattle.specksonne.specs.Fresh.{fresh-pairs}
+use Rattle.spd_cache.specs.Lent.{cacheWords}
+use Rattle.specksonne.specs.FreshLaws.{fresh-pairs}
 use borrow.Author.Needs.{needs}
 use Rattle.specksonne.proofs.specksonne_fresh.Statement.{statement}
 use Rattle.specksonne.proofs.specksonne_fresh.Tie as tie

@@ -49,7 +49,7 @@ use Rattle.policy.specs.declared.Action.{Action}
 use Rattle.policy.specs.Policy.{orderedSearch}
 use Rattle.policy.specs.declared.Row.{Row}
 use Rattle.policy.specs.Words.{rowOf}
-use Rattle.abi.specs.Words.{directionFrom, selectorsFrom, actionKind, actionNumber}
+use Rattle.abi.specs.Words.{directionFrom, selectorsOf, actionKind, actionNumber}
 use Rattle.selectors.proofs.Direction as D
 use Rattle.selectors.proofs.Direction.Laws as D′
 use Rattle.selectors.proofs.Selectors as P
@@ -65,10 +65,10 @@ use Rattle.abi.proofs.direction_from as dir
 use Rattle.abi.proofs.direction_from.Symbol as dir-def
 use Rattle.abi.proofs.direction_from.Symbol.{name as #dir}
 use Rattle.abi.proofs.direction_from.Met as dir-thm
-use Rattle.abi.proofs.selectors_from as sel
-use Rattle.abi.proofs.selectors_from.Symbol as sel-def
-use Rattle.abi.proofs.selectors_from.Symbol.{name as #sel}
-use Rattle.abi.proofs.selectors_from.Met as sel-thm
+use Rattle.selectors.proofs.words.selectors_of as sel
+use Rattle.selectors.proofs.words.selectors_of.Symbol as sel-def
+use Rattle.selectors.proofs.words.selectors_of.Symbol.{name as #sel}
+use Rattle.selectors.proofs.words.selectors_of.Met as sel-thm
 use Rattle.abi.proofs.action_number as num
 use Rattle.abi.proofs.action_number.Symbol as num-def
 use Rattle.abi.proofs.action_number.Symbol.{name as #num}
@@ -146,7 +146,7 @@ module _ {M : Type 1} (𝓤 : URA M) (H : Heap 𝓤) (A : Atoms 𝓤) (W : Given
   Words = ShrRef (named 1) κ₁ Ten .own words (vptr b₁ o₁ ∷ [])
 
   abbrev answer : Action
-  answer = orderedSearch (directionFrom m) (map rowOf ys) (combination (selectorsFrom ws))
+  answer = orderedSearch (directionFrom m) (map rowOf ys) (combination (selectorsOf ws))
 
   exits : (k r : ℕ) (u : Val) → r ≡ actionKind answer → k ≡ actionNumber answer
       → ent 𝓤 (⋆ 𝓤 H A (‵ (u64 .own r (u ∷ [])) ∷ ‵ (fobs γ₂ (u64 .coded .code k)) ∷ ‵ (fbor κ₂ (Body (mem u64) b₂ o₂ γ₂)) ∷ ‵ (flft κ₂ q₂) ∷ (‵ (flft κ q) ⊛ ‵ ftrue) ∷ (‵ (flft κ₁ q₁) ⊛ ‵ ftrue) ∷ ‵ Words ∷ ‵ Rows ∷ [])) (Post u)
@@ -176,8 +176,8 @@ module _ {M : Type 1} (𝓤 : URA M) (H : Heap 𝓤) (A : Atoms 𝓤) (W : Given
   asked-sel : ent 𝓤 (onEntry 𝓤 H A sel.signature (κ₁, tt) (q₁, tt) (words, tt) (vptr b₁ o₁ ∷ [], tt)) (Sel 𝓤 H A mem′ run .pre to-sel)
   asked-sel = qed W ((‵ (flft κ₁ q₁) ⊛ ‵ ftrue) ∷ ‵ (owns (ShrRef (named 0) κ₁ Ten ∷ []) (words, tt) (vptr b₁ o₁ ∷ [], tt)) ∷ []) ∵ join ! $ frame ! $ done !
 
-  said-sel : (s : Selectors) → ent 𝓤 (ensured 𝓤 H A sel.ended (sel.clauses 𝓤 H A mem′ run) (κ₁, tt) (words, tt) tt s) (fact 𝓤 (s ≡ selectorsFrom ws))
-  said-sel s = exE 𝓤 _ (λ us. snd∗ 𝓤 (sem 𝓤 H A (lasts sel.ended (κ₁, tt) (words, tt) us)) (fact 𝓤 (s ≡ selectorsFrom ws)))
+  said-sel : (s : Selectors) → ent 𝓤 (ensured 𝓤 H A sel.ended (sel.clauses 𝓤 H A mem′ run) (κ₁, tt) (words, tt) tt s) (fact 𝓤 (s ≡ selectorsOf ws))
+  said-sel s = exE 𝓤 _ (λ us. snd∗ 𝓤 (sem 𝓤 H A (lasts sel.ended (κ₁, tt) (words, tt) us)) (fact 𝓤 (s ≡ selectorsOf ws)))
 
   module _ (d : Direction) (u : Val) (s : Selectors) (w : Val) where
     abbrev to-find : Find 𝓤 H A mem′ run .Ghost
@@ -189,7 +189,7 @@ module _ {M : Type 1} (𝓤 : URA M) (H : Heap 𝓤) (A : Atoms 𝓤) (W : Given
     said-find : (a : Action) → ent 𝓤 (ensured 𝓤 H A find.ended (find.clauses 𝓤 H A mem′ run) (κ, tt) (rows, (d, (s, tt))) tt a) (fact 𝓤 (a ≡ orderedSearch d (map rowOf ys) (combination s)))
     said-find a = exE 𝓤 _ (λ us. snd∗ 𝓤 (sem 𝓤 H A (lasts find.ended (κ, tt) (rows, (d, (s, tt))) us)) (fact 𝓤 (a ≡ orderedSearch d (map rowOf ys) (combination s))))
 
-    found : (a : Action) → a ≡ orderedSearch d (map rowOf ys) (combination s) → d ≡ directionFrom m → s ≡ selectorsFrom ws → a ≡ answer
+    found : (a : Action) → a ≡ orderedSearch d (map rowOf ys) (combination s) → d ≡ directionFrom m → s ≡ selectorsOf ws → a ≡ answer
     found a e e₁ e₂ = e ∙ ap (λ (d : Direction). orderedSearch d (map rowOf ys) (combination s)) e₁ ∙ ap (λ (s : Selectors). orderedSearch (directionFrom m) (map rowOf ys) (combination s)) e₂
 
   module _ (a : Action) (y : Val) where
@@ -233,11 +233,11 @@ module _ {M : Type 1} (𝓤 : URA M) (H : Heap 𝓤) (A : Atoms 𝓤) (W : Given
         split ! $ move ! (1 ∷ []) $ use1 W (raw (fact 𝓤 (d ≡ directionFrom m))) (said-dir d) $ heard ! (d ≡ directionFrom m) (λ e₁. split ! $ drop ! $
         peeks ! D.the-row (Is D.the-row) (shows 𝓤 H A D.the-row) d (u ∷ []) (λ is-d.
         land ! (from ! (stop !)) (init ! 5 refl (EL.lawful D.the-type D′.the-laws 𝓤 H A W tt .typed d _ is-d .0)) $ drop ! $
-        -- `selectors_from`
+        -- `selectors_of`
         nothing ! $ move ! (19 ∷ 0 ∷ []) $ fjoin ! $ nothing ! $ move ! (22 ∷ 0 ∷ []) $ join ! $ use2 W (raw (Sel 𝓤 H A mem′ run .pre to-sel)) asked-sel $
         calls-at ! fm (Sel 𝓤 H A mem′ run) (known .sels) to-sel (and-then ! (load ! (from ! (stop !)) (look ! 11 refl)) (no-more !)) (λ w.
         use1 W (later (some (λ (s : Selectors). ((‵ (flft κ₁ q₁) ⊛ ‵ ftrue) ⊛ ‵ (P.the-row .own s (w ∷ []))) ⊛ raw (ensured 𝓤 H A sel.ended (sel.clauses 𝓤 H A mem′ run) (κ₁, tt) (words, tt) tt s)))) (id⊢ 𝓤 _) $ await ! tt $ pick ! (λ s.
-        split ! $ move ! (1 ∷ []) $ use1 W (raw (fact 𝓤 (s ≡ selectorsFrom ws))) (said-sel s) $ heard ! (s ≡ selectorsFrom ws) (λ e₂. split ! $ move ! (1 ∷ []) $
+        split ! $ move ! (1 ∷ []) $ use1 W (raw (fact 𝓤 (s ≡ selectorsOf ws))) (said-sel s) $ heard ! (s ≡ selectorsOf ws) (λ e₂. split ! $ move ! (1 ∷ []) $
         peeks ! P.the-row (Is P.the-row) (shows 𝓤 H A P.the-row) s (w ∷ []) (λ is-s.
         land ! (from ! (stop !)) (init ! 4 refl (LL.lawful P.the-type P′.the-laws 𝓤 H A W .typed s _ is-s .0)) $ drop ! $
         -- [κ₁'s token; _8; …; _0; …; the slice; κ's token; obs; the borrow; κ₂'s token; the words; the slice]: `search`
@@ -295,7 +295,7 @@ specksonne-search-records-spec 𝓤 H 𝓜 𝓖 𝓡 =
     (tables 𝓤 H 𝓜 𝓡 code.env .C) (tables 𝓤 H 𝓜 𝓡 code.env .Λ) #f code.function (code.unfolded 𝓤 H 𝓜 𝓡)
     (meets 𝓤 H (𝓖 .A) (givenOf 𝓤 H 𝓜 𝓖) (𝓜 .mem) (𝓡 .run) (tablesOf 𝓤 H 𝓜 (tables 𝓤 H 𝓜 𝓡 code.env)) (record {
       dirs = cited 𝓤 H (Dir 𝓤 H (𝓖 .A) (𝓜 .mem) (𝓡 .run)) 𝓜 𝓡 code.env #dir dir-def.routine code.calls-abi·direction-from (dir-thm.met 𝓤 H 𝓜 𝓖 𝓡);
-      sels = cited 𝓤 H (Sel 𝓤 H (𝓖 .A) (𝓜 .mem) (𝓡 .run)) 𝓜 𝓡 code.env #sel sel-def.routine code.calls-abi·selectors-from (sel-thm.met 𝓤 H 𝓜 𝓖 𝓡);
+      sels = cited 𝓤 H (Sel 𝓤 H (𝓖 .A) (𝓜 .mem) (𝓡 .run)) 𝓜 𝓡 code.env #sel sel-def.routine code.calls-selectors·words·selectors-of (sel-thm.met 𝓤 H 𝓜 𝓖 𝓡);
       finds = cited 𝓤 H (Find 𝓤 H (𝓖 .A) (𝓜 .mem) (𝓡 .run)) 𝓜 𝓡 code.env #find find-def.routine code.calls-row-records·search (find-thm.met 𝓤 H 𝓜 𝓖 𝓡);
       nums = cited 𝓤 H (Num 𝓤 H (𝓖 .A) (𝓜 .mem) (𝓡 .run)) 𝓜 𝓡 code.env #num num-def.routine code.calls-abi·action-number (num-thm.met 𝓤 H 𝓜 𝓖 𝓡);
       kinds = cited 𝓤 H (Kind 𝓤 H (𝓖 .A) (𝓜 .mem) (𝓡 .run)) 𝓜 𝓡 code.env #kind kind-def.routine code.calls-abi·action-kind (kind-thm.met 𝓤 H 𝓜 𝓖 𝓡);

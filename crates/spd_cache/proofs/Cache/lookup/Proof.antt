@@ -13,15 +13,15 @@ use Rattle.spd_cache.proofs.Cache.lookup.Statement.{statement}
 use Rattle.spd_cache.proofs.Cache.lookup.Tie as tie
 
 -- A hit is one of the slots in use, and a match one of the rows.
-hit-slot : (c : tie.After-known-told) → c .before .slot .given .0 .0 < min (c .before .before .before .before .before .before .before .args .t1 .count) slotCount
+hit-slot : (c : tie.After-known-told) → c .before .slot .given .0 .0 < min (c .before .before .before .before .before .before .before .before .args .t1 .count) slotCount
 hit-slot c =
-    let s = c .before .before .before .before .before .before .before in
+    let s = c .before .before .before .before .before .before .before .before in
     slot-bound (s .args .t1 .words) (s .args .t1 .count) (s .args .direction) (combination (s .args .selectors)) _
     (sym (c .before .before .before .in-slots .ensures) ∙ c .before .slot .given .1)
 
-row-in : (c : tie.After-known-told2) → c .before .found .given .0 .0 * rowWords + rowWords ≤ length (now (c .before .before .before .before .before .before .before .before .before .before .args .rows))
+row-in : (c : tie.After-known-told2) → c .before .found .given .0 .0 * rowWords + rowWords ≤ length (now (c .before .before .before .before .before .before .before .before .before .before .before .args .rows))
 row-in c =
-    let s = c .before .before .before .before .before .before .before .before .before .before in
+    let s = c .before .before .before .before .before .before .before .before .before .before .before in
     row-bound (now (s .args .rows)) (s .args .direction) (combination (s .args .selectors)) _
     (sym (c .before .before .before .first-match .ensures) ∙ c .before .found .given .1)
 
@@ -36,7 +36,7 @@ action-at-requires c κs = omega (arith, hit-slot (c .before .before .before), c
 
 returns : tie.Need-returns
 returns c =
-    let s = c .before .before .before .before .before .before .before .before .before .before .before in
+    let s = c .before .before .before .before .before .before .before .before .before .before .before .before in
     rw (c .action-at .ensures, ← (used-action (s .args .t1 .words) (s .args .t1 .count) _ (hit-slot (c .before .before .before .before))))
     (sym (lookup-hit (s .args .t1) (now (s .args .rows)) (s .args .direction) (combination (s .args .selectors)) _ (sym (c .before .before .before .before .before .before .before .in-slots .ensures) ∙ c .before .before .before .before .before .slot .given .1)))
 
@@ -54,7 +54,7 @@ enum-told-2 c = search needs
 
 returns-2 : tie.Need-returns-2
 returns-2 c =
-    let s = c .before .before .before .before .before .before .before .before .before in
+    let s = c .before .before .before .before .before .before .before .before .before .before in
     sym (lookup-none (s .args .t1) (now (s .args .rows)) (s .args .direction) (combination (s .args .selectors))
     (sym (c .before .before .before .before .before .in-slots .ensures) ∙ c .before .before .before .enum-told .given .1)
     (sym (c .before .before .first-match .ensures) ∙ c .enum-told2 .given .1))
@@ -67,7 +67,7 @@ store-requires c κs = row-in (c .before)
 
 returns-3 : tie.Need-returns-3
 returns-3 c =
-    let s = c .before .before .before .before .before .before .before .before .before .before .before .before in
+    let s = c .before .before .before .before .before .before .before .before .before .before .before .before .before in
     rw (c .before .action-at2 .ensures, c .store .ensures)
     (sym (lookup-miss (s .args .t1) (now (s .args .rows)) (s .args .direction) (combination (s .args .selectors)) _
     (sym (c .before .before .before .before .before .before .before .before .in-slots .ensures) ∙ c .before .before .before .before .before .before .enum-told .given .1)
