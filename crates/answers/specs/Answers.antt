@@ -12,7 +12,6 @@ use Rattle.selectors.specs.declared.Direction.{Direction}
 use Rattle.selectors.specs.declared.Direction.the-variants.{Out, In}
 use Rattle.policy.specs.declared.Action.{Action}
 use Rattle.policy.specs.declared.Action.the-variants.{Discard, Bypass, Protect}
-use Rattle.policy.specs.Policy.{PolicyRow}
 use Rattle.packet.specs.Read.{readPacket, readTrigger}
 use Rattle.packet.specs.declared.Packet.{Packet}
 use Rattle.packet.specs.declared.Reading.the-variants.{Readable}
@@ -21,12 +20,13 @@ use Rattle.sad.specs.declared.NewPair.{NewPair}
 use Rattle.sad.specs.declared.PairFound.the-variants.{Found, Nothing}
 use Rattle.verdicts.specs.Calls.{shows, spiOf, outboundBy, inboundBy, fromSaBy}
 use Rattle.verdicts.specs.Verdict.{verdictNumber, carried}
+use Rattle.policy_text.specs.declared.Edition.{Edition}
 use Rattle.policy_text.specs.declared.Refusal.the-variants.{NotHeader, NotEnded, TooMany, BadRow}
-use Rattle.policy_text.specs.Editions.{refused, rows, parsePolicy}
+use Rattle.policy_text.specs.Editions.{rowCount, Rules, refused, rows, parsePolicy}
 use Rattle.decorrelate.specs.Form.{form, directionNumber}
 use Rattle.normaliser.specs.Normalise.{formFile, normalisedNumber, normalisedCarries}
 use Rattle.spd.specs.Spd.{acceptanceNumber, acceptanceCarries}
-use Rattle.answers.specs.Terms.{ReadablePacket, ReadableHeader, protocolOf, ForGateway, Fragment, TooShort, IcmpError, returned, LowSpi, NotIpsec, BadNumber, SomeBadRange, BadPair, HasHeader, EndsInLf, rowCount, FirstBadRow, RowsAre, normalisedFile, acceptedFile}
+use Rattle.answers.specs.Terms.{ReadablePacket, ReadableHeader, protocolOf, ForGateway, Fragment, TooShort, IcmpError, returned, LowSpi, NotIpsec, BadNumber, SomeBadRange, BadPair, Headed, HasHeader, EndsInLf, FirstBadRow, RowsAre, normalisedFile, acceptedFile}
 use Rattle.answers.specs.Exactly.{rule-iff, verdict-exactly, verdict-carrying, outcome-exactly, normalised-exactly, normalised-carrying, acceptance-exactly, acceptance-carrying}
 use Rattle.answers.specs.PacketRules.{outbound-ruled, inbound-ruled, from-sa-ruled}
 use Rattle.answers.specs.PairRules.{add-ruled, remove-ruled}
@@ -75,7 +75,7 @@ in-4 search address pairs p protocol spi = verdict-carrying (inbound-ruled searc
 -- 5, done: policy accepted. 'A policy is checked in the order 23, 24, 21, 20 (first bad row), 22', and none of them.
 pub accept-5 : (limit : ℕ) (s : List ℕ)
     → (acceptanceNumber (acceptedFile limit s) ≡ 5)
-    ↔ ((rs : List PolicyRow) × (parsePolicy limit s ≡ rows rs) × (length (form Out rs) ≤ limit) × (length (form In rs) ≤ limit))
+    ↔ ((rs : Rules) × (parsePolicy limit s ≡ rows rs) × (length (form Out rs) ≤ limit) × (length (form In rs) ≤ limit))
 accept-5 limit s = acceptance-exactly (accept-ruled limit s) 5 refl
 
 -- Pair added. 'An added pair: 25, 28, 26, 27', and none of them.
@@ -91,7 +91,7 @@ remove-5 ws protocol spi = outcome-exactly (remove-ruled ws protocol spi) 5 refl
 -- File printed: 'for a print, the count of bytes written'.
 pub normalise-5 : (limit : ℕ) (d : Direction) (room : ℕ) (s : List ℕ) (n : ℕ)
     → ((normalisedNumber (normalisedFile limit d room s) ≡ 5) × (normalisedCarries (normalisedFile limit d room s) ≡ n))
-    ↔ ((rs : List PolicyRow) × (parsePolicy limit s ≡ rows rs) × (length (form d rs) ≤ limit) × (length (formFile d rs) ≤ room)
+    ↔ ((rs : Rules) × (parsePolicy limit s ≡ rows rs) × (length (form d rs) ≤ limit) × (length (formFile d rs) ≤ room)
     × (length (formFile d rs) ≡ n))
 normalise-5 limit d room s n = normalised-carrying (normalise-ruled limit d room s) 5 n refl refl
 
@@ -169,52 +169,53 @@ pub sa-18 : (protocol spi : ℕ) (pairs : List Pair) (p : List ℕ)
     × (t : Packet) × (readTrigger Out (returned p k) ≡ Readable t) × (fitting protocol spi (shows t) pairs ≡ false))
 sa-18 protocol spi pairs p = verdict-exactly (from-sa-ruled protocol spi pairs p) 18 refl
 
--- A policy file is one that 23, 24, 21 and 20 let through; `rs` are its rows.
-pub file-rows : (limit : ℕ) (s : List ℕ) (rs : List PolicyRow)
-    → (parsePolicy limit s ≡ rows rs) ↔ (HasHeader s × EndsInLf s × (rowCount s ≤ limit) × RowsAre s rs)
+-- A policy file is one that 23, 24, 21 and 20 let through; `rs` has its edition and rows.
+pub file-rows : (limit : ℕ) (s : List ℕ) (rs : Rules)
+    → (parsePolicy limit s ≡ rows rs)
+    ↔ (Headed (rs .edition) s × EndsInLf s × (rowCount (rs .edition) s ≤ limit) × RowsAre (rs .edition) s (rs .entries))
 file-rows limit s rs = rule-iff (file-ruled limit s) (rows rs)
 
 -- 20, bad row: 'its number, first row 1'. 'A policy is checked in the order 23, 24, 21, 20 (first bad row)'.
 pub file-20 : (limit : ℕ) (s : List ℕ) (i : ℕ)
-    → (parsePolicy limit s ≡ refused (BadRow i)) ↔ (HasHeader s × EndsInLf s × (rowCount s ≤ limit) × FirstBadRow s i)
+    → (parsePolicy limit s ≡ refused (BadRow i)) ↔ ((e : Edition) × Headed e s × EndsInLf s × (rowCount e s ≤ limit) × FirstBadRow e s i)
 file-20 limit s i = rule-iff (file-ruled limit s) (refused (BadRow i))
 
 pub accept-20 : (limit : ℕ) (s : List ℕ) (i : ℕ)
     → ((acceptanceNumber (acceptedFile limit s) ≡ 20) × (acceptanceCarries (acceptedFile limit s) ≡ i))
-    ↔ (HasHeader s × EndsInLf s × (rowCount s ≤ limit) × FirstBadRow s i)
+    ↔ ((e : Edition) × Headed e s × EndsInLf s × (rowCount e s ≤ limit) × FirstBadRow e s i)
 accept-20 limit s i = acceptance-carrying (accept-ruled limit s) 20 i refl refl
 
 pub normalise-20 : (limit : ℕ) (d : Direction) (room : ℕ) (s : List ℕ) (i : ℕ)
     → ((normalisedNumber (normalisedFile limit d room s) ≡ 20) × (normalisedCarries (normalisedFile limit d room s) ≡ i))
-    ↔ (HasHeader s × EndsInLf s × (rowCount s ≤ limit) × FirstBadRow s i)
+    ↔ ((e : Edition) × Headed e s × EndsInLf s × (rowCount e s ≤ limit) × FirstBadRow e s i)
 normalise-20 limit d room s i = normalised-carrying (normalise-ruled limit d room s) 20 i refl refl
 
 -- 21, more than 256 rows.
-pub file-21 : (limit : ℕ) (s : List ℕ) → (parsePolicy limit s ≡ refused TooMany) ↔ (HasHeader s × EndsInLf s × (limit < rowCount s))
+pub file-21 : (limit : ℕ) (s : List ℕ) → (parsePolicy limit s ≡ refused TooMany) ↔ ((e : Edition) × Headed e s × EndsInLf s × (limit < rowCount e s))
 file-21 limit s = rule-iff (file-ruled limit s) (refused TooMany)
 
-pub accept-21 : (limit : ℕ) (s : List ℕ) → (acceptanceNumber (acceptedFile limit s) ≡ 21) ↔ (HasHeader s × EndsInLf s × (limit < rowCount s))
+pub accept-21 : (limit : ℕ) (s : List ℕ) → (acceptanceNumber (acceptedFile limit s) ≡ 21) ↔ ((e : Edition) × Headed e s × EndsInLf s × (limit < rowCount e s))
 accept-21 limit s = acceptance-exactly (accept-ruled limit s) 21 refl
 
 pub normalise-21 : (limit : ℕ) (d : Direction) (room : ℕ) (s : List ℕ)
-    → (normalisedNumber (normalisedFile limit d room s) ≡ 21) ↔ (HasHeader s × EndsInLf s × (limit < rowCount s))
+    → (normalisedNumber (normalisedFile limit d room s) ≡ 21) ↔ ((e : Edition) × Headed e s × EndsInLf s × (limit < rowCount e s))
 normalise-21 limit d room s = normalised-exactly (normalise-ruled limit d room s) 21 refl
 
 -- 22, normal form over 256 rows: 'way, out tried first'. 1 is out and 2 in.
 pub accept-22-out : (limit : ℕ) (s : List ℕ)
     → ((acceptanceNumber (acceptedFile limit s) ≡ 22) × (acceptanceCarries (acceptedFile limit s) ≡ 1))
-    ↔ ((rs : List PolicyRow) × (parsePolicy limit s ≡ rows rs) × (limit < length (form Out rs)))
+    ↔ ((rs : Rules) × (parsePolicy limit s ≡ rows rs) × (limit < length (form Out rs)))
 accept-22-out limit s = acceptance-carrying (accept-ruled limit s) 22 1 refl refl
 
 pub accept-22-in : (limit : ℕ) (s : List ℕ)
     → ((acceptanceNumber (acceptedFile limit s) ≡ 22) × (acceptanceCarries (acceptedFile limit s) ≡ 2))
-    ↔ ((rs : List PolicyRow) × (parsePolicy limit s ≡ rows rs) × (length (form Out rs) ≤ limit) × (limit < length (form In rs)))
+    ↔ ((rs : Rules) × (parsePolicy limit s ≡ rows rs) × (length (form Out rs) ≤ limit) × (limit < length (form In rs)))
 accept-22-in limit s = acceptance-carrying (accept-ruled limit s) 22 2 refl refl
 
 -- 'A call for one way alone tries 22 for that way only'.
 pub normalise-22 : (limit : ℕ) (d : Direction) (room : ℕ) (s : List ℕ) (way : ℕ)
     → ((normalisedNumber (normalisedFile limit d room s) ≡ 22) × (normalisedCarries (normalisedFile limit d room s) ≡ way))
-    ↔ ((way ≡ directionNumber d) × (rs : List PolicyRow) × (parsePolicy limit s ≡ rows rs) × (limit < length (form d rs)))
+    ↔ ((way ≡ directionNumber d) × (rs : Rules) × (parsePolicy limit s ≡ rows rs) × (limit < length (form d rs)))
 normalise-22 limit d room s way = normalise-over limit d room s way
 
 -- 23, first nine bytes aren't the header line.
@@ -267,5 +268,5 @@ remove-29 ws protocol spi = outcome-exactly (remove-ruled ws protocol spi) 29 re
 -- 31, lent room shorter than the printed file. '31 comes last.'
 pub normalise-31 : (limit : ℕ) (d : Direction) (room : ℕ) (s : List ℕ)
     → (normalisedNumber (normalisedFile limit d room s) ≡ 31)
-    ↔ ((rs : List PolicyRow) × (parsePolicy limit s ≡ rows rs) × (length (form d rs) ≤ limit) × (room < length (formFile d rs)))
+    ↔ ((rs : Rules) × (parsePolicy limit s ≡ rows rs) × (length (form d rs) ≤ limit) × (room < length (formFile d rs)))
 normalise-31 limit d room s = normalised-exactly (normalise-ruled limit d room s) 31 refl

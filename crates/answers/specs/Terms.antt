@@ -5,7 +5,7 @@ use mathlib.Core.Bool.{true}
 use mathlib.Core.List.{List, [], map}
 use mathlib.Core.Logic.{_⊎_, _≢_}
 use mathlib.Core.Option.{none, some}
-use lib.ListN.{length, getD, take, drop}
+use lib.ListN.{length, getD, take}
 use Rattle.selectors.specs.Range.{absent, addressSize, protocolSize, portSize}
 use Rattle.selectors.specs.Value.{number}
 use Rattle.selectors.specs.declared.Direction.{Direction}
@@ -15,10 +15,10 @@ use Rattle.packet.specs.Read.{triggerOf}
 use Rattle.packet.specs.declared.Packet.{Packet}
 use Rattle.sad.specs.declared.NewPair.{NewPair}
 use Rattle.policy.specs.Policy.{PolicyRow}
-use Rattle.policy_text.specs.Bytes.{lf, count}
-use Rattle.policy_text.specs.Format.{rowOf, linesOf}
-use Rattle.policy_text.specs.Edition1.{header}
-use Rattle.policy_text.specs.Editions.{parsePolicy}
+use Rattle.policy_text.specs.Bytes.{lf}
+use Rattle.policy_text.specs.Format.{rowOf}
+use Rattle.policy_text.specs.declared.Edition.{Edition}
+use Rattle.policy_text.specs.Editions.{formatOf, rowCount, rowLines, parsePolicy}
 use Rattle.normaliser.specs.Normalise.{normalised}
 use Rattle.normaliser.specs.declared.Normalised.{Normalised}
 use Rattle.spd.specs.Spd.{accepting}
@@ -103,34 +103,30 @@ SomeBadRange q =
 abbrev pub BadPair : NewPair → Type 0
 BadPair q = NotIpsec q ⊎ BadNumber q ⊎ SomeBadRange q
 
--- 'First nine bytes aren't the header line'; 'last byte isn't LF'.
+-- 'First nine bytes aren't the header line': a file begins with the header line of an edition, or with none. 'Last byte isn't LF.'
+abbrev pub Headed : Edition → List ℕ → Type 0
+Headed e s = take (length (formatOf e .header)) s ≡ formatOf e .header
+
 abbrev pub HasHeader : List ℕ → Type 0
-HasHeader s = take 9 s ≡ header
+HasHeader s = (e : Edition) × Headed e s
 
 abbrev pub EndsInLf : List ℕ → Type 0
 EndsInLf s = getD s (length s - 1) 0 ≡ lf
 
--- The rows of a file: every LF after the header line ends one.
-abbrev pub rowCount : List ℕ → ℕ
-rowCount s = count lf (drop 9 s)
-
-abbrev pub rowLines : List ℕ → List (List ℕ)
-rowLines s = linesOf (rowCount s) (drop 9 s)
-
 -- The text of the row i, 'first row 1'.
-abbrev pub rowText : List ℕ → ℕ → List ℕ
-rowText s i = getD (rowLines s) (i - 1) []
+abbrev pub rowText : Edition → List ℕ → ℕ → List ℕ
+rowText e s i = getD (rowLines e s) (i - 1) []
 
 -- 'Bad row: its number, first row 1', of the first bad row: it is no row, and each before it is one.
-pub record FirstBadRow (s : List ℕ) (i : ℕ) : Type 0 where
+pub record FirstBadRow (e : Edition) (s : List ℕ) (i : ℕ) : Type 0 where
   pub from-1 : 1 ≤ i
-  pub there : i ≤ rowCount s
-  pub is-bad : rowOf (rowText s i) ≡ none
-  pub good-before : (j : ℕ) → 1 ≤ j → j < i → (r : PolicyRow) × (rowOf (rowText s j) ≡ some r)
+  pub there : i ≤ rowCount e s
+  pub is-bad : rowOf (formatOf e) (rowText e s i) ≡ none
+  pub good-before : (j : ℕ) → 1 ≤ j → j < i → (r : PolicyRow) × (rowOf (formatOf e) (rowText e s j) ≡ some r)
 
 -- Every line is a row, and these are the rows.
-abbrev pub RowsAre : List ℕ → List PolicyRow → Type 0
-RowsAre s rs = map rowOf (rowLines s) ≡ map some rs
+abbrev pub RowsAre : Edition → List ℕ → List PolicyRow → Type 0
+RowsAre e s rs = map (rowOf (formatOf e)) (rowLines e s) ≡ map some rs
 
 -- What normalising a file for one direction answers, with room for that many bytes.
 abbrev pub normalisedFile : ℕ → Direction → ℕ → List ℕ → Normalised

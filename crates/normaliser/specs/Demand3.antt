@@ -20,7 +20,7 @@ use Rattle.policy.specs.PolicyLaws.{searching-normal-form, same-normal-form, no
 use Rattle.policy_text.specs.declared.Edition.{Edition}
 use Rattle.policy_text.specs.Editions.{formatOf, editionSizes, Rules, rules, rows, parsePolicy}
 use Rattle.policy_text.specs.Print.{policyText}
-use Rattle.policy_round_trip.specs.Editions.{lawful}
+use Rattle.policy_round_trip.specs.EditionsLaws.{lawful}
 use Rattle.policy_round_trip.specs.Files.{AllPrintable, parse-printed, printing-injective}
 use Rattle.policy_round_trip.specs.Accepted.{parse-printable}
 use Rattle.policy_round_trip.specs.NormalForms.{normal-form-printable}

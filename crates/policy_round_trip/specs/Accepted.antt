@@ -23,7 +23,7 @@ use Rattle.policy_text.specs.Editions.{formatOf, editionOf, rowCount, rowLines,
 use Rattle.policy_round_trip.specs.Ranges.{inField-ends, Reads, In}
 use Rattle.policy_round_trip.specs.Lawful.{AllSpelled, Spelled, Writable, Lawful, Printable}
 use Rattle.policy_round_trip.specs.Files.{AllPrintable}
-use Rattle.policy_round_trip.specs.Editions.{lawful}
+use Rattle.policy_round_trip.specs.EditionsLaws.{lawful}
 
 -- A range that is read is one of its field, and so are the ranges of a row.
 range-in : (g : Field) → Spelled g → (s : List ℕ) → Reads (In (g .size)) (g .readRange s)

@@ -15,7 +15,7 @@ use Rattle.policy_text.specs.Editions.{formatOf, bodyOf, rules, rows, policyOf,
 use Rattle.policy_round_trip.specs.Cuts.{count-append, before-seam, after-seam}
 use Rattle.policy_round_trip.specs.Lawful.{HeaderLine, Lawful, Printable}
 use Rattle.policy_round_trip.specs.Rows.{row-back, row-one-line}
-use Rattle.policy_round_trip.specs.Editions.{lawful, edition-found}
+use Rattle.policy_round_trip.specs.EditionsLaws.{lawful, edition-found}
 
 -- Every row is printable.
 abbrev pub AllPrintable : Format → List PolicyRow → Type 0

@@ -1,4 +1,4 @@
--- The laws that the texts of an edition obey, and a row that it has a text for. Assumes nothing.
+-- What an edition of the policy file is to obey, and a row that it has a text for. Assumes nothing: these are definitions.
 use Prim.Native.Nat.{ℕ}
 use mathlib.Core.Path.{_≡_}
 use mathlib.Core.Bool.{true}

@@ -3,10 +3,10 @@ pub mod Decimals
 pub mod Lawful
 pub mod Ranges
 pub mod Rows
-pub mod Edition1
-pub mod Editions
+pub mod Edition1Laws
+pub mod EditionsLaws
 pub mod Files
 pub mod Accepted
-pub mod Lengths
+pub mod LengthLaws
 pub mod NormalForms
 pub mod Words

@@ -1,13 +1,13 @@
 -- The words of a gateway that holds a policy, and policy acceptance (document 01; docs/RULES.md, 'The order of checks'). Assumes nothing: these are definitions.
 use Prim.Native.Nat.{ℕ}
 use mathlib.Core.Bool.{cond}
-use mathlib.Core.List.{List, _∷_, _++_}
+use mathlib.Core.List.{List, [], _∷_, _++_}
 use lib.Dec.{leb}
 use lib.ListN.{length}
 use Rattle.selectors.specs.declared.Direction.{Direction}
 use Rattle.selectors.specs.declared.Direction.the-variants.{Out, In}
-use Rattle.policy.specs.Policy.{PolicyRow}
-use Rattle.policy_text.specs.Editions.{Policy, refused, rows, refusalNumber, refusalCarries}
+use Rattle.policy_text.specs.declared.Edition.the-variants.{One}
+use Rattle.policy_text.specs.Editions.{Rules, rules, Policy, refused, rows, refusalNumber, refusalCarries}
 use Rattle.decorrelate.specs.Form.{form, formRoom, directionNumber}
 use Rattle.spd_cache.specs.Cache.{emptyCache}
 use Rattle.spd_words.specs.Words.{addressOf}
@@ -22,9 +22,13 @@ heldWords address outCount outRoom inCount inRoom = address ∷ outCount ∷ inC
 
 -- The words of a gateway with this address that holds this policy: 'A fresh gate holds the gateway address it was made with, never
 -- changed, the policy without rows'. Each room is for `capacity` rows.
-abbrev pub spdWords : ℕ → ℕ → List PolicyRow → List ℕ
+abbrev pub spdWords : ℕ → ℕ → Rules → List ℕ
 spdWords capacity address rs =
     heldWords address (length (form Out rs)) (formRoom capacity Out rs) (length (form In rs)) (formRoom capacity In rs)
+
+-- 'The policy without rows', which a fresh gate holds: one of edition 1.
+abbrev pub noRules : Rules
+noRules = rules One []
 
 -- 'A policy is checked in the order 23, 24, 21, 20 (first bad row), 22', and 22 has the 'way, out tried first'.
 abbrev pub accepting : ℕ → Policy → Acceptance

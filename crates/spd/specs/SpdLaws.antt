@@ -8,45 +8,45 @@ use mathlib.Core.List.{List, [], _∷_}
 use lib.ListN.{length, take, replicate, length-append}
 use lib.Seq.{take-append-le, drop-at}
 use borrow.Author.Tests.{le-leb, lt-leb}
-use Rattle.selectors.specs.Range.{ipv4Sizes}
 use Rattle.selectors.specs.declared.Direction.{Direction}
 use Rattle.selectors.specs.declared.Direction.the-variants.{Out, In}
 use Rattle.normal_form.specs.Search.{Combination}
-use Rattle.policy.specs.Policy.{PolicyRow, orderedSearch}
-use Rattle.policy.specs.Words.{rowWords, policyRows}
-use Rattle.policy_text.specs.Editions.{Policy, refused, rows}
+use Rattle.policy.specs.Policy.{orderedSearch}
+use Rattle.policy.specs.Words.{rowWords, policyRows, wordsOfAll}
+use Rattle.policy_text.specs.declared.Edition.the-variants.{One}
+use Rattle.policy_text.specs.Editions.{editionSizes, Rules, Policy, refused, rows}
 use Rattle.decorrelate.specs.Form.{form, formWords, padded, formRoom}
 use Rattle.decorrelate.specs.AgreeLaws.{empty-form}
 use Rattle.decorrelate.specs.FormLaws.{form-words-length, form-search}
 use Rattle.decorrelate.specs.RoomLaws.{padded-size, padded-start}
 use Rattle.spd.specs.declared.Acceptance.{Acceptance}
 use Rattle.spd.specs.declared.Acceptance.the-variants.{Accepted, Refused, TooLarge}
-use Rattle.spd.specs.Spd.{heldWords, spdWords, accepting, ifAccepted, spdAfter}
+use Rattle.spd.specs.Spd.{heldWords, spdWords, noRules, accepting, ifAccepted, spdAfter}
 use Rattle.spd_words.specs.Words.{spdSize, addressOf, rowsOf, rowsAt}
 
 -- The words of the policy without rows.
 pub empty-words : (capacity a : ℕ)
-    → heldWords a 0 (replicate (capacity * rowWords) 0) 0 (replicate (capacity * rowWords) 0) ≡ spdWords capacity a []
-unfolding formWords padded
+    → heldWords a 0 (replicate (capacity * rowWords) 0) 0 (replicate (capacity * rowWords) 0) ≡ spdWords capacity a noRules
+unfolding wordsOfAll padded
 empty-words capacity a =
     let e : capacity * rowWords - length (formWords []) ≡ capacity * rowWords = omega arith in
-    rw (empty-form Out, empty-form In, e)
+    rw (empty-form Out One, empty-form In One, e)
 
 -- The normal form for each direction is within a number of rows.
-pub record Within (most : ℕ) (rs : List PolicyRow) : Type 0 where
+pub record Within (most : ℕ) (rs : Rules) : Type 0 where
   pub out-within : length (form Out rs) ≤ most
   pub in-within : length (form In rs) ≤ most
 
-pub empty-within : (most : ℕ) → Within most []
-empty-within most = record { out-within = rw (empty-form Out) (omega arith); in-within = rw (empty-form In) (omega arith) }
+pub empty-within : (most : ℕ) → Within most noRules
+empty-within most = record { out-within = rw (empty-form Out One) (omega arith); in-within = rw (empty-form In One) (omega arith) }
 
 -- What is within the limit is within every capacity that carries it.
-pub within-more : (limit capacity : ℕ) → limit ≤ capacity → (rs : List PolicyRow) → Within limit rs → Within capacity rs
+pub within-more : (limit capacity : ℕ) → limit ≤ capacity → (rs : Rules) → Within limit rs → Within capacity rs
 within-more limit capacity bound rs w =
     record { out-within = omega (arith, bound, w .out-within); in-within = omega (arith, bound, w .in-within) }
 
 -- The room of a direction, for `capacity` rows.
-module _ (capacity : ℕ) (d : Direction) (rs : List PolicyRow) (h : length (form d rs) ≤ capacity) where
+module _ (capacity : ℕ) (d : Direction) (rs : Rules) (h : length (form d rs) ≤ capacity) where
   room-size : length (formRoom capacity d rs) ≡ capacity * rowWords
   room-size = padded-size (capacity * rowWords) (formWords (form d rs)) (omega (arith, form-words-length d rs))
 
@@ -56,7 +56,7 @@ module _ (capacity : ℕ) (d : Direction) (rs : List PolicyRow) (h : length (for
       padded-start (capacity * rowWords) (formWords (form d rs)) (min (length (form d rs)) capacity * rowWords) (omega (arith, form-words-length d rs))
 
 -- A policy whose normal forms the words carry.
-module _ (capacity address : ℕ) (rs : List PolicyRow) (w : Within capacity rs) where
+module _ (capacity address : ℕ) (rs : Rules) (w : Within capacity rs) where
   pub spd-size : length (spdWords capacity address rs) ≡ spdSize capacity
   spd-size = omega (arith, length-append (formRoom capacity Out rs) (formRoom capacity In rs), room-size capacity Out rs (w .out-within), room-size capacity In rs (w .in-within))
 
@@ -74,12 +74,12 @@ module _ (capacity address : ℕ) (rs : List PolicyRow) (w : Within capacity rs)
       ∙ rows-start capacity In rs (w .in-within)
 
   -- Searching them is searching the policy.
-  pub spd-search : (d : Direction) (vs : List ℕ) → Combination ipv4Sizes vs
-      → orderedSearch d (policyRows (rowsOf capacity (spdWords capacity address rs) d)) vs ≡ orderedSearch d rs vs
+  pub spd-search : (d : Direction) (vs : List ℕ) → Combination (editionSizes (rs .edition)) vs
+      → orderedSearch d (policyRows (rowsOf capacity (spdWords capacity address rs) d)) vs ≡ orderedSearch d (rs .entries) vs
   spd-search d vs ok = rw (spd-rows d) (form-search d rs d vs ok)
 
 -- A policy of these rows is accepted exactly where both normal forms are within the limit.
-pub accepted-exactly : (limit : ℕ) (rs : List PolicyRow) → (accepting limit (rows rs) ≡ Accepted) ↔ Within limit rs
+pub accepted-exactly : (limit : ℕ) (rs : Rules) → (accepting limit (rows rs) ≡ Accepted) ↔ Within limit rs
 accepted-exactly limit rs = by (decLe (length (form Out rs)) limit) (decLe (length (form In rs)) limit)
   where
     refused-as : (d : Direction) → TooLarge d ≡ Accepted → ⊥

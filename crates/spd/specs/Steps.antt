@@ -7,8 +7,7 @@ use lib.ListN.{length}
 use borrow.Author.Tests.{le-leb, lt-leb}
 use Rattle.selectors.specs.declared.Direction.{Direction}
 use Rattle.selectors.specs.declared.Direction.the-variants.{Out, In}
-use Rattle.policy.specs.Policy.{PolicyRow}
-use Rattle.policy_text.specs.Editions.{rows}
+use Rattle.policy_text.specs.Editions.{Rules, rows}
 use Rattle.decorrelate.specs.Form.{form}
 use Rattle.decorrelate.specs.RoomLaws.{Held}
 use Rattle.spd.specs.declared.Acceptance.the-variants.{Accepted, TooLarge}
@@ -17,7 +16,7 @@ use Rattle.spd.specs.Spd.{heldWords, emptyCaches, answer, settled, spdAf
 use Rattle.spd_words.specs.Words.{addressOf}
 
 -- The answers to a policy of these rows, and the words after it.
-module _ (capacity limit : ℕ) (c : Caches) (ws : List ℕ) (rs : List PolicyRow) where
+module _ (capacity limit : ℕ) (c : Caches) (ws : List ℕ) (rs : Rules) where
   pub out-too-large : limit < length (form Out rs)
       → (answer (TooLarge Out) c ≡ settled limit c (rows rs)) × (ws ≡ spdAfter capacity limit ws (rows rs))
   out-too-large h = let e = lt-leb (length (form Out rs)) limit h in (rw e, rw e)

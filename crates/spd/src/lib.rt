@@ -1,15 +1,15 @@
 // A fresh gateway's policy, and policy acceptance (document 01; docs/RULES.md, 'The order of checks').
 ghost use mathlib.Core.Path.{_≡_};
-ghost use mathlib.Core.List.{[]};
 ghost use Prim.Native.Nat.{_+_, _≤_};
 ghost use lib.ListN.{length};
 ghost use lib.Seq.{paste};
 ghost use Rattle.policy.specs.Words.{policyRows, policyWords, rowLimit};
-ghost use Rattle.policy_text.specs.Editions.{rows, parsePolicy};
-ghost use Rattle.spd.specs.Spd.{heldWords, spdWords, spdAfter, emptyCaches, answer, settled};
+ghost use Rattle.policy_text.specs.Editions.{rules, rows, parsePolicy};
+ghost use Rattle.spd.specs.Spd.{heldWords, spdWords, noRules, spdAfter, emptyCaches, answer, settled};
 use decorrelate::Form;
 use policy::POLICY_WORDS;
 use policy::ROW_WORDS;
+use policy_text::Edition;
 use policy_text::File;
 use policy_text::Refusal;
 use selectors::Direction;
@@ -81,7 +81,7 @@ fn write(
 
 // A fresh gateway holds its address and the policy without rows.
 pub fn fresh(words: &mut [u64; SPD_WORDS], address: u32) -> Caches
-    ensures { λ r. ⌜ (r ≡ emptyCaches) × (now (words .exit) ≡ spdWords rowLimit address []) ⌝ }
+    ensures { λ r. ⌜ (r ≡ emptyCaches) × (now (words .exit) ≡ spdWords rowLimit address noRules) ⌝ }
 {
     let none = [0u64; POLICY_WORDS];
     write(words, address as u64, 0, &none, 0, &none);
@@ -96,17 +96,17 @@ fn refuse(acceptance: Acceptance, caches: Caches) -> Settled
 }
 
 // Takes the rows of a policy: both normal forms are laid out before anything lent is written.
-fn load(words: &mut [u64; SPD_WORDS], caches: Caches, policy: &[u64]) -> Settled
-    ensures { λ r. ⌜ r ≡ settled rowLimit caches (rows (policyRows (now (policy .entry)))) ⌝ }
-    ensures { λ _. ⌜ now (words .exit) ≡ spdAfter rowLimit rowLimit (now (words .entry)) (rows (policyRows (now (policy .entry)))) ⌝ }
+fn load(words: &mut [u64; SPD_WORDS], caches: Caches, edition: Edition, policy: &[u64]) -> Settled
+    ensures { λ r. ⌜ r ≡ settled rowLimit caches (rows (rules edition (policyRows (now (policy .entry))))) ⌝ }
+    ensures { λ _. ⌜ now (words .exit) ≡ spdAfter rowLimit rowLimit (now (words .entry)) (rows (rules edition (policyRows (now (policy .entry))))) ⌝ }
 {
     let mut outbound = [0u64; POLICY_WORDS];
-    let out_form = decorrelate::form_of(policy, Direction::Out, &mut outbound);
+    let out_form = decorrelate::form_of(edition, policy, Direction::Out, &mut outbound);
     let Form::Rows(out_count) = out_form else {
         return refuse(Acceptance::TooLarge(Direction::Out), caches);
     };
     let mut inbound = [0u64; POLICY_WORDS];
-    let in_form = decorrelate::form_of(policy, Direction::In, &mut inbound);
+    let in_form = decorrelate::form_of(edition, policy, Direction::In, &mut inbound);
     let Form::Rows(in_count) = in_form else {
         return refuse(Acceptance::TooLarge(Direction::In), caches);
     };
@@ -126,7 +126,7 @@ pub fn accept(words: &mut [u64; SPD_WORDS], caches: Caches, bytes: &[u8]) -> Set
     let mut policy = [0u64; POLICY_WORDS];
     let file = policy_parse::parse_policy(bytes, &mut policy);
     match file {
-        File::Rows(n) => load(words, caches, &policy[..n * ROW_WORDS]),
+        File::Rows(edition, n) => load(words, caches, edition, &policy[..n * ROW_WORDS]),
         File::Refused(refusal) => refuse(Acceptance::Refused(refusal), caches),
     }
 }

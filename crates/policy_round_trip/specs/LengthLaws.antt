@@ -22,7 +22,7 @@ use Rattle.policy_text.specs.Editions.{formatOf}
 use Rattle.policy_text.specs.PrintLaws.{decimal-length, ranges-length}
 use Rattle.policy_round_trip.specs.Ranges.{inField-made, range-short}
 use Rattle.policy_round_trip.specs.Lawful.{Printable}
-use Rattle.policy_round_trip.specs.Edition1.{Proper, proper, address-values, protocol-values, port-values}
+use Rattle.policy_round_trip.specs.Edition1Laws.{Proper, proper, address-values, protocol-values, port-values}
 use Rattle.policy_round_trip.specs.Files.{AllPrintable, first-printable, rest-printable, rows-cons}
 
 -- Rows whose texts, with their LF, have at most so many bytes.

@@ -15,7 +15,7 @@ use Rattle.policy_text.specs.BytesLaws.{same-bytes, same-self}
 use Rattle.policy_text.specs.Editions.{formatOf, editions, headed, editionAmong, editionOf}
 use Rattle.policy_round_trip.specs.Cuts.{before-seam}
 use Rattle.policy_round_trip.specs.Lawful.{Lawful}
-use Rattle.policy_round_trip.specs.Edition1.{edition1-lawful}
+use Rattle.policy_round_trip.specs.Edition1Laws.{edition1-lawful}
 
 pub lawful : (e : Edition) → Lawful (formatOf e)
 lawful One = edition1-lawful
@@ -66,3 +66,25 @@ found-among (x ∷ es) e s m h only = by (headed (formatOf x) s) refl (List·Mem
 -- A text that begins with an edition's header line is of that edition.
 pub edition-found : (e : Edition) (t : List ℕ) → editionOf (formatOf e .header ++ t) ≡ some e
 edition-found e t = found-among editions e (formatOf e .header ++ t) (every e) (headed-own e t) (headed-only e t)
+
+-- So a file is of an edition exactly where it begins with that edition's header line.
+pub edition-is : (e : Edition) (s : List ℕ) → take (length (formatOf e .header)) s ≡ formatOf e .header → editionOf s ≡ some e
+edition-is e s h =
+    let n = length (formatOf e .header) in
+    let whole : formatOf e .header ++ drop n s ≡ s = ap (λ (x : List ℕ). x ++ drop n s) (sym h) ∙ take-append-drop n s in
+    ap editionOf (sym whole) ∙ edition-found e (drop n s)
+
+heads-among : (es : List Edition) (e : Edition) (s : List ℕ) → editionAmong es s ≡ some e → headed (formatOf e) s ≡ true
+unfolding editionAmong
+heads-among [] e s q = let z : _≡_ {A = ℕ} 0 1 = cc in absurd (omega arith)
+heads-among (x ∷ es) e s q = by (headed (formatOf x) s) refl (λ f. heads-among es e s f)
+  where
+    by : (b : Bool) → headed (formatOf x) s ≡ b → (editionAmong es s ≡ some e → headed (formatOf e) s ≡ true) → headed (formatOf e) s ≡ true
+    by true f rest =
+        let same : some x ≡ some e = rw f at q in
+        let one : x ≡ e = cc in
+        ap (λ (o : Edition). headed (formatOf o) s) (sym one) ∙ f
+    by false f rest = rest (rw f at q)
+
+pub edition-heads : (e : Edition) (s : List ℕ) → editionOf s ≡ some e → take (length (formatOf e .header)) s ≡ formatOf e .header
+edition-heads e s q = same-bytes _ _ (heads-among editions e s q)
