@@ -11,10 +11,10 @@ use Rattle.packet.specs.Header.{Bytes}
 use Rattle.packet.specs.declared.Reading.{Reading}
 use Rattle.packet.specs.declared.Reading.the-variants.{Readable, Unreadable}
 use Rattle.policy.specs.Policy.{PolicyRow, matches, orderedSearch, bothWays}
-use Rattle.policy_text.specs.Editions.{Policy, refused, rows, parsePolicy}
+use Rattle.policy_text.specs.Editions.{Rules, Policy, refused, rows, parsePolicy}
 use Rattle.decorrelate.specs.Form.{form}
 use Rattle.spd_cache.specs.Cache.{slotCount, replaced}
-use Rattle.spd.specs.Spd.{accepting, ifAccepted}
+use Rattle.spd.specs.Spd.{noRules, accepting, ifAccepted}
 use Rattle.sad.specs.declared.NewPair.{NewPair}
 use Rattle.sad.specs.declared.Outcome.{Outcome}
 use Rattle.sad.specs.declared.Outcome.the-variants.{Done, ReservedSpi, AlreadyLive, TableFull, BadPair, NothingToRemove}
@@ -22,12 +22,12 @@ use Rattle.sad.specs.Pairs.{Pair, named, addOutcome, removeOutcome, newPair}
 use Rattle.verdicts.specs.Calls.{shows, forGateway, outboundBy, inboundBy, fromSaBy}
 use Rattle.sequences.specs.Sequence.{Call, policy, add, remove, outbound, inbound, fromSa, Answer, forPolicy, forPair, forPacket}
 
--- The rows of a file that is accepted: one that 23, 24, 21, 20 and 22 let through.
-abbrev pub acceptedRows : ℕ → Policy → Option (List PolicyRow)
+-- The rules of a file that is accepted: one that 23, 24, 21, 20 and 22 let through.
+abbrev pub acceptedRows : ℕ → Policy → Option Rules
 acceptedRows limit (refused p) = none
 acceptedRows limit (rows rs) = ifAccepted (accepting limit (rows rs)) (some rs) none
 
-abbrev pub accepts : ℕ → Call → Option (List PolicyRow)
+abbrev pub accepts : ℕ → Call → Option Rules
 accepts limit (policy s) = acceptedRows limit (parsePolicy limit s)
 accepts limit (add p) = none
 accepts limit (remove protocol spi) = none
@@ -35,18 +35,18 @@ accepts limit (outbound p) = none
 accepts limit (inbound p) = none
 accepts limit (fromSa protocol spi p) = none
 
--- The current policy: the rows of the last accepted file.
+-- The current policy: the rules of the last accepted file.
 abbrev pub instead : {A : Type 0} → A → Option A → A
 instead a none = a
 instead a (some b) = b
 
-unfoldable pub currentFrom : ℕ → List PolicyRow → List Call → List PolicyRow
+unfoldable pub currentFrom : ℕ → Rules → List Call → Rules
 currentFrom limit rs [] = rs
 currentFrom limit rs (c ∷ cs) = currentFrom limit (instead rs (accepts limit c)) cs
 
 -- 'The policy without rows' at first.
-abbrev pub current : ℕ → List Call → List PolicyRow
-current limit cs = currentFrom limit [] cs
+abbrev pub current : ℕ → List Call → Rules
+current limit cs = currentFrom limit noRules cs
 
 -- The live pairs: each that was added, and was not removed since. A refusal changes nothing.
 abbrev pub addedTo : List Pair → NewPair → Outcome → List Pair
@@ -125,31 +125,31 @@ triedSlots s (some hit) found = s
 triedSlots s none found = missedSlots s found
 
 -- A search of values under a policy: the row that a miss finds is one of the normal form's.
-abbrev pub slotsSearched : Direction → List PolicyRow → Slots → Option (List ℕ) → Slots
+abbrev pub slotsSearched : Direction → Rules → Slots → Option (List ℕ) → Slots
 slotsSearched d rs s none = s
 slotsSearched d rs s (some vs) = triedSlots s (firstRow d (s .taken) vs) (firstRow d (map bothWays (form d rs)) vs)
 
 -- 'An accepted policy empties both caches, sets both turns to the first slot.'
-abbrev pub slotsOr : Slots → Option (List PolicyRow) → Slots
+abbrev pub slotsOr : Slots → Option Rules → Slots
 slotsOr s none = s
 slotsOr s (some rs) = noSlots
 
 -- The slots after a sequence of calls on a gateway with this address, from a policy and slots on.
-unfoldable pub slotsFrom : ℕ → Direction → ℕ → List PolicyRow → Slots → List Call → Slots
+unfoldable pub slotsFrom : ℕ → Direction → ℕ → Rules → Slots → List Call → Slots
 slotsFrom limit d address rs s [] = s
 slotsFrom limit d address rs s (c ∷ cs) =
     slotsFrom limit d address (instead rs (accepts limit c)) (slotsOr (slotsSearched d rs s (searched d address c)) (accepts limit c)) cs
 
 abbrev pub slots : ℕ → Direction → ℕ → List Call → Slots
-slots limit d address cs = slotsFrom limit d address [] noSlots cs
+slots limit d address cs = slotsFrom limit d address noRules noSlots cs
 
 -- The answer to a call by document 01's rules, from the gateway's address, the current policy and the live pairs.
-abbrev pub ruled : ℕ → ℕ → List PolicyRow → List Pair → Call → Answer
+abbrev pub ruled : ℕ → ℕ → Rules → List Pair → Call → Answer
 ruled limit address rs qs (policy s) = forPolicy (accepting limit (parsePolicy limit s))
 ruled limit address rs qs (add p) = forPair (addOutcome qs p)
 ruled limit address rs qs (remove protocol spi) = forPair (removeOutcome qs protocol spi)
-ruled limit address rs qs (outbound p) = forPacket (outboundBy (orderedSearch Out rs) qs p)
-ruled limit address rs qs (inbound p) = forPacket (inboundBy (orderedSearch In rs) address qs p)
+ruled limit address rs qs (outbound p) = forPacket (outboundBy (orderedSearch Out (rs .entries)) qs p)
+ruled limit address rs qs (inbound p) = forPacket (inboundBy (orderedSearch In (rs .entries)) address qs p)
 ruled limit address rs qs (fromSa protocol spi p) = forPacket (fromSaBy protocol spi qs p)
 
 -- A packet that is searched is made of bytes, as every lent packet is.

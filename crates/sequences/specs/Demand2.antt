@@ -7,7 +7,7 @@ use mathlib.Core.Path.{_≡_, refl, sym, ap, _∙_}
 use mathlib.Core.Bool.{true}
 use mathlib.Core.List.{List, [], _∷_}
 use mathlib.Core.Logic.{_↔_, _⊎_}
-use Rattle.selectors.specs.Range.{ipv4Sizes, absent}
+use Rattle.selectors.specs.Range.{absent}
 use Rattle.selectors.specs.Value.{number}
 use Rattle.selectors.specs.declared.Direction.{Direction}
 use Rattle.selectors.specs.declared.Direction.the-variants.{Out, In}
@@ -18,6 +18,7 @@ use Rattle.packet.specs.declared.Packet.{Packet}
 use Rattle.packet.specs.declared.Reading.the-variants.{Readable}
 use Rattle.policy.specs.declared.Action.the-variants.{Bypass, Protect}
 use Rattle.policy.specs.Policy.{orderedSearch}
+use Rattle.policy_text.specs.Editions.{editionSizes}
 use Rattle.spd_cache.specs.Cache.{lookedUp}
 use Rattle.spd_words.specs.Words.{rowsOf}
 use Rattle.sad.specs.declared.PairFound.the-variants.{Found, Nothing}
@@ -45,53 +46,53 @@ module _ (capacity limit : ℕ) (bound : limit ≤ capacity) (address : ℕ) (cs
 
   -- 'In any sequence of lookups, policy changes and association changes, the cached answer is the one that an ordered search of the
   -- current policy gives.'
-  pub cached-answer : (d : Direction) (vs : List ℕ) → Combination ipv4Sizes vs
-      → lookedUp (cacheOf d (gateway .caches)) (rowsOf capacity (gateway .spd) d) d vs .action ≡ orderedSearch d (current limit cs) vs
+  pub cached-answer : (d : Direction) (vs : List ℕ) → Combination (editionSizes (current limit cs .edition)) vs
+      → lookedUp (cacheOf d (gateway .caches)) (rowsOf capacity (gateway .spd) d) d vs .action ≡ orderedSearch d (current limit cs .entries) vs
   cached-answer = cached-search capacity limit bound address cs
 
   module _ (p : List ℕ) (bytes : Bytes p) where
     -- 'A readable packet going out … passes in clear exactly where the first matching entry is a bypass for its way.'
     pub passes-out : (verdictNumber (goesOut capacity gateway p .verdict) ≡ 0)
-        ↔ ((k : Packet) × (readPacket Out p ≡ Readable k) × FirstIs Out (current limit cs) (shows k) Bypass)
+        ↔ ((k : Packet) × (readPacket Out p ≡ Readable k) × FirstIs Out (current limit cs .entries) (shows k) Bypass)
     passes-out =
         rw (outbound-answer capacity limit bound address cs p bytes)
-        (through (out-0 (orderedSearch Out (current limit cs)) (livePairs cs) p) (
-          λ h. (h .0, h .1, first-bypass Out (current limit cs) (shows (h .0)) .0 (h .2)),
-          λ h. (h .0, h .1, first-bypass Out (current limit cs) (shows (h .0)) .1 (h .2)),
+        (through (out-0 (orderedSearch Out (current limit cs .entries)) (livePairs cs) p) (
+          λ h. (h .0, h .1, first-bypass Out (current limit cs .entries) (shows (h .0)) .0 (h .2)),
+          λ h. (h .0, h .1, first-bypass Out (current limit cs .entries) (shows (h .0)) .1 (h .2)),
         ))
 
     -- 'A readable packet … from outside and not AH or ESP for the gateway, passes in clear exactly where the first matching entry is a bypass
     -- for its way.'
     pub passes-in : (verdictNumber (comesIn capacity gateway p .verdict) ≡ 0)
-        ↔ ((k : Packet) × (readPacket In p ≡ Readable k) × (¬ (ForGateway address k)) × FirstIs In (current limit cs) (shows k) Bypass)
+        ↔ ((k : Packet) × (readPacket In p ≡ Readable k) × (¬ (ForGateway address k)) × FirstIs In (current limit cs .entries) (shows k) Bypass)
     passes-in =
         rw (inbound-answer capacity limit bound address cs p bytes)
-        (through (in-0 (orderedSearch In (current limit cs)) address (livePairs cs) p) (
-          λ h. (h .0, h .1, h .2, first-bypass In (current limit cs) (shows (h .0)) .0 (h .3)),
-          λ h. (h .0, h .1, h .2, first-bypass In (current limit cs) (shows (h .0)) .1 (h .3)),
+        (through (in-0 (orderedSearch In (current limit cs .entries)) address (livePairs cs) p) (
+          λ h. (h .0, h .1, h .2, first-bypass In (current limit cs .entries) (shows (h .0)) .0 (h .3)),
+          λ h. (h .0, h .1, h .2, first-bypass In (current limit cs .entries) (shows (h .0)) .1 (h .3)),
         ))
 
     -- 2 and 3: the first matching entry is protect-N, and the table has a fitting pair, or has none.
     pub protects : (n protocol spi : ℕ)
         → ((verdictNumber (goesOut capacity gateway p .verdict) ≡ 2) × (carried (goesOut capacity gateway p .verdict) ≡ n ∷ protocol ∷ spi ∷ []))
-        ↔ ((k : Packet) × (readPacket Out p ≡ Readable k) × FirstIs Out (current limit cs) (shows k) (Protect n)
+        ↔ ((k : Packet) × (readPacket Out p ≡ Readable k) × FirstIs Out (current limit cs .entries) (shows k) (Protect n)
         × (pairFor n (shows k) (livePairs cs) ≡ Found protocol spi))
     protects n protocol spi =
         rw (outbound-answer capacity limit bound address cs p bytes)
-        (through (out-2 (orderedSearch Out (current limit cs)) (livePairs cs) p n protocol spi) (
-          λ h. (h .0, h .1, first-protect Out (current limit cs) (shows (h .0)) n .0 (h .2), h .3),
-          λ h. (h .0, h .1, first-protect Out (current limit cs) (shows (h .0)) n .1 (h .2), h .3),
+        (through (out-2 (orderedSearch Out (current limit cs .entries)) (livePairs cs) p n protocol spi) (
+          λ h. (h .0, h .1, first-protect Out (current limit cs .entries) (shows (h .0)) n .0 (h .2), h .3),
+          λ h. (h .0, h .1, first-protect Out (current limit cs .entries) (shows (h .0)) n .1 (h .2), h .3),
         ))
 
     pub wants-pair : (n : ℕ)
         → ((verdictNumber (goesOut capacity gateway p .verdict) ≡ 3) × (carried (goesOut capacity gateway p .verdict) ≡ n ∷ 0 ∷ 0 ∷ []))
-        ↔ ((k : Packet) × (readPacket Out p ≡ Readable k) × FirstIs Out (current limit cs) (shows k) (Protect n)
+        ↔ ((k : Packet) × (readPacket Out p ≡ Readable k) × FirstIs Out (current limit cs .entries) (shows k) (Protect n)
         × (pairFor n (shows k) (livePairs cs) ≡ Nothing))
     wants-pair n =
         rw (outbound-answer capacity limit bound address cs p bytes)
-        (through (out-3 (orderedSearch Out (current limit cs)) (livePairs cs) p n) (
-          λ h. (h .0, h .1, first-protect Out (current limit cs) (shows (h .0)) n .0 (h .2), h .3),
-          λ h. (h .0, h .1, first-protect Out (current limit cs) (shows (h .0)) n .1 (h .2), h .3),
+        (through (out-3 (orderedSearch Out (current limit cs .entries)) (livePairs cs) p n) (
+          λ h. (h .0, h .1, first-protect Out (current limit cs .entries) (shows (h .0)) n .0 (h .2), h .3),
+          λ h. (h .0, h .1, first-protect Out (current limit cs .entries) (shows (h .0)) n .1 (h .2), h .3),
         ))
 
 -- 'One from a live association is delivered exactly where it fits that association, or is an ICMP error whose returned header does.'

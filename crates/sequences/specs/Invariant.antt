@@ -14,7 +14,7 @@ use Rattle.packet.specs.declared.Reading.{Reading}
 use Rattle.packet.specs.declared.Reading.the-variants.{Readable, Unreadable}
 use Rattle.policy.specs.Policy.{PolicyRow, bothWays}
 use Rattle.policy.specs.Words.{policyRows}
-use Rattle.policy_text.specs.Editions.{Policy, refused, rows, parsePolicy}
+use Rattle.policy_text.specs.Editions.{Rules, Policy, refused, rows, parsePolicy}
 use Rattle.decorrelate.specs.Form.{form}
 use Rattle.decorrelate.specs.FormLaws.{form-words-rows}
 use Rattle.spd_cache.specs.declared.Cache.{Cache}
@@ -23,7 +23,7 @@ use Rattle.spd_cache.specs.SlotLaws.{Filled, empty-filled, empty-cached, lookup
 use Rattle.spd.specs.declared.Acceptance.{Acceptance}
 use Rattle.spd.specs.declared.Acceptance.the-variants.{Accepted, Refused, TooLarge}
 use Rattle.spd.specs.declared.Caches.{Caches}
-use Rattle.spd.specs.Spd.{spdWords, spdAfter, emptyCaches, cachesAfter, accepting, ifAccepted}
+use Rattle.spd.specs.Spd.{noRules, spdWords, spdAfter, emptyCaches, cachesAfter, accepting, ifAccepted}
 use Rattle.spd_words.specs.Words.{addressOf, rowsOf}
 use Rattle.spd.specs.SpdLaws.{Within, empty-within, within-more, accepted-exactly, spd-rows}
 use Rattle.sad.specs.Pairs.{placeCount, placeWords}
@@ -43,16 +43,16 @@ cacheSearched d ws c none = c
 cacheSearched d ws c (some vs) = lookedUp c ws d vs .cache
 
 -- The words and the caches after a policy file, by the rows that are accepted.
-abbrev spdOr : ℕ → List ℕ → Option (List PolicyRow) → List ℕ
+abbrev spdOr : ℕ → List ℕ → Option Rules → List ℕ
 spdOr capacity ws none = ws
 spdOr capacity ws (some rs) = spdWords capacity (addressOf ws) rs
 
-abbrev cachesOr : Caches → Option (List PolicyRow) → Caches
+abbrev cachesOr : Caches → Option Rules → Caches
 cachesOr c none = c
 cachesOr c (some rs) = emptyCaches
 
 -- What is taken where a policy is accepted, by whether rows are.
-if-accepted : {A : Type 0} (new old : A) (take : Option (List PolicyRow) → A) (rs : List PolicyRow) → take (some rs) ≡ new → take none ≡ old
+if-accepted : {A : Type 0} (new old : A) (take : Option Rules → A) (rs : Rules) → take (some rs) ≡ new → take none ≡ old
     → (a : Acceptance) → ifAccepted a new old ≡ take (ifAccepted a (some rs) none)
 if-accepted new old take rs p q Accepted = sym p
 if-accepted new old take rs p q (Refused r) = sym q
@@ -67,10 +67,10 @@ caches-settled : (limit : ℕ) (c : Caches) (f : Policy) → cachesAfter limit c
 caches-settled limit c (refused r) = refl
 caches-settled limit c (rows rs) = if-accepted emptyCaches c (cachesOr c) rs refl refl (accepting limit (rows rs))
 
-none≢some : (rs : List PolicyRow) → _≡_ {A = Option (List PolicyRow)} none (some rs) → ⊥
+none≢some : (rs : Rules) → _≡_ {A = Option Rules} none (some rs) → ⊥
 none≢some rs e = let z : _≡_ {A = ℕ} 0 1 = cc in omega arith
 
-accepted-within : (limit : ℕ) (f : Policy) (rs : List PolicyRow) → acceptedRows limit f ≡ some rs → Within limit rs
+accepted-within : (limit : ℕ) (f : Policy) (rs : Rules) → acceptedRows limit f ≡ some rs → Within limit rs
 accepted-within limit (refused p) rs e = absurd (none≢some rs e)
 accepted-within limit (rows qs) rs e = by (accepting limit (rows qs)) refl e
   where
@@ -79,16 +79,16 @@ accepted-within limit (rows qs) rs e = by (accepting limit (rows qs)) refl e
     by (Refused r) g h = absurd (none≢some rs h)
     by (TooLarge d) g h = absurd (none≢some rs h)
 
--- The cache of a direction, when a policy with these rows is current: its slots are filled from the first on, and each row that it holds
+-- The cache of a direction, when a policy with these rules is current: its slots are filled from the first on, and each row that it holds
 -- is one of the normal form's.
-pub record Holding (d : Direction) (rs : List PolicyRow) (c : Cache) : Type 0 where
+pub record Holding (d : Direction) (rs : Rules) (c : Cache) : Type 0 where
   pub filled : Filled c
   pub rows-of : (r : PolicyRow) → List·Memᴰ r (cached c) → List·Memᴰ r (map bothWays (form d rs))
 
-empty-holding : (d : Direction) (rs : List PolicyRow) → Holding d rs emptyCache
+empty-holding : (d : Direction) (rs : Rules) → Holding d rs emptyCache
 empty-holding d rs = record { filled = empty-filled; rows-of = λ r m. absurd (List·Memᴰ·not-nil (rw empty-cached at m)) }
 
-module _ (d : Direction) (rs : List PolicyRow) (ws : List ℕ) (is : policyRows ws ≡ map bothWays (form d rs)) where
+module _ (d : Direction) (rs : Rules) (ws : List ℕ) (is : policyRows ws ≡ map bothWays (form d rs)) where
   search-holding : (c : Cache) → Holding d rs c → (o : Option (List ℕ)) → Holding d rs (cacheSearched d ws c o)
   search-holding c h none = h
   search-holding c h (some vs) =
@@ -97,14 +97,14 @@ module _ (d : Direction) (rs : List PolicyRow) (ws : List ℕ) (is : policyRows 
         rows-of = λ r m. ⊎-elim (h .rows-of r) (λ q. rw is at q) (lookup-mem c ws d vs (h .filled) r m);
       }
 
--- A gateway with this address, when these rows are the current policy.
-pub record Sound (capacity limit address : ℕ) (rs : List PolicyRow) (g : Gateway) : Type 0 where
+-- A gateway with this address, when these rules are the current policy.
+pub record Sound (capacity limit address : ℕ) (rs : Rules) (g : Gateway) : Type 0 where
   pub policy-words : g .spd ≡ spdWords capacity address rs
   pub within : Within limit rs
   pub pair-words : length (g .sad) ≡ placeCount * placeWords
   pub holding : (d : Direction) → Holding d rs (cacheOf d (g .caches))
 
-pub fresh-sound : (capacity limit address : ℕ) → Sound capacity limit address [] (fresh capacity address)
+pub fresh-sound : (capacity limit address : ℕ) → Sound capacity limit address noRules (fresh capacity address)
 fresh-sound capacity limit address =
     record {
       policy-words = refl;
@@ -113,9 +113,9 @@ fresh-sound capacity limit address =
       holding = empty-each;
     }
   where
-    empty-each : (d : Direction) → Holding d [] (cacheOf d emptyCaches)
-    empty-each Out = empty-holding Out []
-    empty-each In = empty-holding In []
+    empty-each : (d : Direction) → Holding d noRules (cacheOf d emptyCaches)
+    empty-each Out = empty-holding Out noRules
+    empty-each In = empty-holding In noRules
 
 -- The caches after a packet: what it searches.
 out-cache : (c : Cache) (ws : List ℕ) (a : ℕ) (q : _) (p : List ℕ) → outboundCached c ws q p .cache ≡ cacheSearched Out ws c (searched Out a (outbound p))
@@ -139,11 +139,11 @@ in-cache c ws a q p = by (readPacket In p)
     by Unreadable = refl
 
 -- The policy words and the caches after any call, by what it accepts and what it searches.
-abbrev pub cacheOr : Cache → Option (List PolicyRow) → Cache
+abbrev pub cacheOr : Cache → Option Rules → Cache
 cacheOr c none = c
 cacheOr c (some rs) = emptyCache
 
-caches-each : (d : Direction) (c : Caches) (o : Option (List PolicyRow)) → cacheOf d (cachesOr c o) ≡ cacheOr (cacheOf d c) o
+caches-each : (d : Direction) (c : Caches) (o : Option Rules) → cacheOf d (cachesOr c o) ≡ cacheOr (cacheOf d c) o
 caches-each Out c none = refl
 caches-each Out c (some rs) = refl
 caches-each In c none = refl
@@ -184,7 +184,7 @@ module _ (capacity limit : ℕ) where
   pair-words-after g (inbound p) h = h
   pair-words-after g (fromSa protocol spi p) h = h
 
-accepts-within : (limit : ℕ) (c : Call) (rs : List PolicyRow) → accepts limit c ≡ some rs → Within limit rs
+accepts-within : (limit : ℕ) (c : Call) (rs : Rules) → accepts limit c ≡ some rs → Within limit rs
 accepts-within limit (policy s) rs e = accepted-within limit (parsePolicy limit s) rs e
 accepts-within limit (add p) rs e = absurd (none≢some rs e)
 accepts-within limit (remove protocol spi) rs e = absurd (none≢some rs e)
@@ -192,12 +192,12 @@ accepts-within limit (outbound p) rs e = absurd (none≢some rs e)
 accepts-within limit (inbound p) rs e = absurd (none≢some rs e)
 accepts-within limit (fromSa protocol spi p) rs e = absurd (none≢some rs e)
 
-pub address-kept : (capacity limit address : ℕ) (rs : List PolicyRow) (g : Gateway) → Sound capacity limit address rs g → addressOf (g .spd) ≡ address
+pub address-kept : (capacity limit address : ℕ) (rs : Rules) (g : Gateway) → Sound capacity limit address rs g → addressOf (g .spd) ≡ address
 address-kept capacity limit address rs g s = rw (s .policy-words)
 
 -- The words carry every policy that is accepted.
 module _ (capacity limit : ℕ) (bound : limit ≤ capacity) where
-  module _ (address : ℕ) (rs : List PolicyRow) (g : Gateway) (s : Sound capacity limit address rs g) where
+  module _ (address : ℕ) (rs : Rules) (g : Gateway) (s : Sound capacity limit address rs g) where
     -- The words that a packet call searches are the rows of the current policy's normal form.
     pub rows-read : (d : Direction) → policyRows (rowsOf capacity (g .spd) d) ≡ map bothWays (form d rs)
     rows-read d = rw (s .policy-words, spd-rows capacity address rs (within-more limit capacity bound rs (s .within)) d) (form-words-rows d rs)
@@ -205,7 +205,7 @@ module _ (capacity limit : ℕ) (bound : limit ≤ capacity) where
     pub after-sound : (c : Call) → Sound capacity limit address (instead rs (accepts limit c)) (after capacity limit g c)
     after-sound c = by (accepts limit c) refl
       where
-        by : (o : Option (List PolicyRow)) → accepts limit c ≡ o → Sound capacity limit address (instead rs o) (after capacity limit g c)
+        by : (o : Option Rules) → accepts limit c ≡ o → Sound capacity limit address (instead rs o) (after capacity limit g c)
         by none e =
             record {
               policy-words = spd-after capacity limit g c ∙ rw e (s .policy-words);
@@ -222,11 +222,11 @@ module _ (capacity limit : ℕ) (bound : limit ≤ capacity) where
             }
 
   -- After any sequence.
-  run-sound : (address : ℕ) (rs : List PolicyRow) (g : Gateway) → Sound capacity limit address rs g → (cs : List Call)
+  run-sound : (address : ℕ) (rs : Rules) (g : Gateway) → Sound capacity limit address rs g → (cs : List Call)
       → Sound capacity limit address (currentFrom limit rs cs) (run capacity limit g cs)
   unfolding run currentFrom
   run-sound address rs g s [] = s
   run-sound address rs g s (c ∷ cs) = run-sound address (instead rs (accepts limit c)) (after capacity limit g c) (after-sound address rs g s c) cs
 
   pub sound : (address : ℕ) (cs : List Call) → Sound capacity limit address (current limit cs) (run capacity limit (fresh capacity address) cs)
-  sound address cs = run-sound address [] (fresh capacity address) (fresh-sound capacity limit address) cs
+  sound address cs = run-sound address noRules (fresh capacity address) (fresh-sound capacity limit address) cs

@@ -21,6 +21,9 @@ use Rattle.policy.specs.declared.Action.the-variants.{Discard, Bypass, Protect}
 use Rattle.policy.specs.Action.{action-≟}
 use Rattle.policy.specs.Policy.{PolicyRow, matches, orderedSearch, bothWays}
 use Rattle.policy.specs.Words.{policyRows}
+use Rattle.policy_text.specs.declared.Edition.{Edition}
+use Rattle.policy_text.specs.declared.Edition.the-variants.{One}
+use Rattle.policy_text.specs.Editions.{editionSizes, Rules}
 use Rattle.decorrelate.specs.Form.{form}
 use Rattle.spd_cache.specs.Cache.{cached, lookedUp}
 use Rattle.spd_cache.specs.SlotLaws.{lookup-action}
@@ -47,15 +50,15 @@ row-action d rs (q ∷ L) r vs h m e =
     (λ t. row-action d rs L r vs (λ q m. h q (List·Memᴰ·tail m)) t e)
     (List·Memᴰ·cases-cons m)
 
-module _ (capacity limit : ℕ) (bound : limit ≤ capacity) (address : ℕ) (rs : List PolicyRow) (g : Gateway) (s : Sound capacity limit address rs g) where
+module _ (capacity limit : ℕ) (bound : limit ≤ capacity) (address : ℕ) (rs : Rules) (g : Gateway) (s : Sound capacity limit address rs g) where
   -- A search by the cache is the ordered search.
-  search-sound : (d : Direction) (vs : List ℕ) → Combination ipv4Sizes vs
-      → lookedUp (cacheOf d (g .caches)) (rowsOf capacity (g .spd) d) d vs .action ≡ orderedSearch d rs vs
+  search-sound : (d : Direction) (vs : List ℕ) → Combination (editionSizes (rs .edition)) vs
+      → lookedUp (cacheOf d (g .caches)) (rowsOf capacity (g .spd) d) d vs .action ≡ orderedSearch d (rs .entries) vs
   search-sound d vs ok =
-      let plain : orderedSearch d (policyRows (rowsOf capacity (g .spd) d)) vs ≡ orderedSearch d rs vs
+      let plain : orderedSearch d (policyRows (rowsOf capacity (g .spd) d)) vs ≡ orderedSearch d (rs .entries) vs
       = rw (s .policy-words) (spd-search capacity address rs (within-more limit capacity bound rs (s .within)) d vs ok) in
       lookup-action (cacheOf d (g .caches)) (rowsOf capacity (g .spd) d) d vs
-      (λ r m e. row-action d rs (form d rs) r vs (λ q n. normal-form-row action-≟ Discard ipv4Sizes (orderedSearch d rs) q n vs) (s .holding d .rows-of r m) e ∙ sym plain)
+      (λ r m e. row-action d (rs .entries) (form d rs) r vs (λ q n. normal-form-row action-≟ Discard (editionSizes (rs .edition)) (orderedSearch d (rs .entries)) q n vs) (s .holding d .rows-of r m) e ∙ sym plain)
       ∙ plain
 
 -- What a packet shows is a combination.
@@ -64,6 +67,10 @@ unfolding Combination
 shows-combination d p k b e =
     let f = read-in-fields d p k b (packet-shows d p k e) in
     (f .local, (f .remote, (f .protocol, (f .local-port, (f .remote-port, tt)))))
+
+-- Every edition has the fields that are read of a packet.
+fields-shown : (e : Edition) (vs : List ℕ) → Combination ipv4Sizes vs → Combination (editionSizes e) vs
+fields-shown One vs ok = ok
 
 -- Two searches that agree on what the packet shows, and the same pairs in any order, make the same answer of it.
 module _ (s t : List ℕ → Action) (qs rs : List Pair) (h : Alike qs rs) (p : List ℕ) where
@@ -111,23 +118,23 @@ module _ (capacity limit : ℕ) (bound : limit ≤ capacity) (address : ℕ) (cs
 
   -- 'In any sequence of lookups, policy changes and association changes, the cached answer is the one that an ordered search of the
   -- current policy gives.'
-  pub cached-search : (d : Direction) (vs : List ℕ) → Combination ipv4Sizes vs
-      → lookedUp (cacheOf d (gateway .caches)) (rowsOf capacity (gateway .spd) d) d vs .action ≡ orderedSearch d (current limit cs) vs
+  pub cached-search : (d : Direction) (vs : List ℕ) → Combination (editionSizes (current limit cs .edition)) vs
+      → lookedUp (cacheOf d (gateway .caches)) (rowsOf capacity (gateway .spd) d) d vs .action ≡ orderedSearch d (current limit cs .entries) vs
   cached-search = search-sound capacity limit bound address (current limit cs) gateway (sound capacity limit bound address cs)
 
   alike : Alike (pairs (gateway .sad)) (livePairs cs)
   alike = pairs-live capacity limit address cs
 
   module _ (p : List ℕ) (bytes : Bytes p) where
-    pub outbound-answer : goesOut capacity gateway p .verdict ≡ outboundBy (orderedSearch Out (current limit cs)) (livePairs cs) p
+    pub outbound-answer : goesOut capacity gateway p .verdict ≡ outboundBy (orderedSearch Out (current limit cs .entries)) (livePairs cs) p
     unfolding outboundCached
-    outbound-answer = outbound-alike _ _ _ _ alike p (λ k e. cached-search Out (shows k) (shows-combination Out p k bytes e))
+    outbound-answer = outbound-alike _ _ _ _ alike p (λ k e. cached-search Out (shows k) (fields-shown (current limit cs .edition) (shows k) (shows-combination Out p k bytes e)))
 
-    pub inbound-answer : comesIn capacity gateway p .verdict ≡ inboundBy (orderedSearch In (current limit cs)) address (livePairs cs) p
+    pub inbound-answer : comesIn capacity gateway p .verdict ≡ inboundBy (orderedSearch In (current limit cs .entries)) address (livePairs cs) p
     unfolding inboundCached
     inbound-answer =
-        inbound-alike _ _ _ _ alike p (addressOf (gateway .spd)) (λ k e. cached-search In (shows k) (shows-combination In p k bytes e))
-        ∙ ap (λ (a : ℕ). inboundBy (orderedSearch In (current limit cs)) a (livePairs cs) p) (address-kept capacity limit address (current limit cs) gateway (sound capacity limit bound address cs))
+        inbound-alike _ _ _ _ alike p (addressOf (gateway .spd)) (λ k e. cached-search In (shows k) (fields-shown (current limit cs .edition) (shows k) (shows-combination In p k bytes e)))
+        ∙ ap (λ (a : ℕ). inboundBy (orderedSearch In (current limit cs .entries)) a (livePairs cs) p) (address-kept capacity limit address (current limit cs) gateway (sound capacity limit bound address cs))
 
   -- The answer to the next call, whatever it is, is the one that document 01 and RFC 4301 give: by the ordered search of the current policy and
   -- the live pairs, with no cache, table or normal form in sight.

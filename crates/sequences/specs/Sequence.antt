@@ -9,7 +9,7 @@ use Rattle.selectors.specs.declared.Direction.the-variants.{Out, In}
 use Rattle.policy_text.specs.Editions.{parsePolicy}
 use Rattle.spd.specs.declared.Acceptance.{Acceptance}
 use Rattle.spd.specs.declared.Caches.{Caches}
-use Rattle.spd.specs.Spd.{spdWords, accepting, spdAfter, emptyCaches, cachesAfter, acceptanceNumber}
+use Rattle.spd.specs.Spd.{spdWords, noRules, accepting, spdAfter, emptyCaches, cachesAfter, acceptanceNumber}
 use Rattle.spd_words.specs.Words.{rowsOf, addressOf}
 use Rattle.spd_cache.specs.declared.Cache.{Cache}
 use Rattle.sad.specs.declared.NewPair.{NewPair}
@@ -29,7 +29,7 @@ pub record Gateway : Type 0 where
 
 -- 'A fresh gate holds the gateway address it was made with, never changed, the policy without rows, no pair and empty caches.'
 abbrev pub fresh : ℕ → ℕ → Gateway
-fresh capacity address = record { spd = spdWords capacity address []; sad = replicate (placeCount * placeWords) 0; caches = emptyCaches }
+fresh capacity address = record { spd = spdWords capacity address noRules; sad = replicate (placeCount * placeWords) 0; caches = emptyCaches }
 
 pub data Call : Type 0 where
   policy : List ℕ → Call

@@ -12,12 +12,13 @@ use Rattle.policy.specs.declared.Found.{Found}
 use Rattle.policy.specs.declared.Found.the-variants.{Row, Nothing}
 use Rattle.policy.specs.Policy.{PolicyRow, matches, matchFrom, bothWays}
 use Rattle.policy.specs.Words.{rowAt, rowsFrom, rowWords, policyRows}
+use Rattle.policy_text.specs.Editions.{Rules}
 use Rattle.decorrelate.specs.Form.{form}
 use Rattle.spd_cache.specs.declared.Cache.{Cache}
 use Rattle.spd_cache.specs.Cache.{slotCount, emptyCache, inUse, cached, turn, stored, lookedUp, replaced}
 use Rattle.spd_cache.specs.CacheLaws.{row-bound, lookup-hit, lookup-miss, lookup-none}
 use Rattle.spd_cache.specs.SlotLaws.{Filled, empty-cached, stored-rows}
-use Rattle.spd.specs.Spd.{emptyCaches}
+use Rattle.spd.specs.Spd.{noRules, emptyCaches}
 use Rattle.spd_words.specs.Words.{addressOf, rowsOf}
 use Rattle.sequences.specs.Sequence.{Gateway, Call, fresh, after, run}
 use Rattle.sequences.specs.Current.{Slots, noSlots, firstRow, missedSlots, triedSlots, slotsSearched, slotsOr, slotsFrom, slots, accepts, instead, searched}
@@ -59,18 +60,18 @@ module _ (c : Cache) (f : Filled c) (ws : List ℕ) (d : Direction) (vs : List �
       by Nothing e (Row j) g = rw (lookup-miss c ws d vs j e g, first-match d (inUse c) vs 0 _, e, first-match d ws vs 0 _, g) (stored-slots j g)
       by Nothing e Nothing g = rw (lookup-none c ws d vs e g, first-match d (inUse c) vs 0 _, e, first-match d ws vs 0 _, g)
 
-module _ (d : Direction) (rs : List PolicyRow) (ws : List ℕ) (is : policyRows ws ≡ map bothWays (form d rs)) where
+module _ (d : Direction) (rs : Rules) (ws : List ℕ) (is : policyRows ws ≡ map bothWays (form d rs)) where
   searched-slots : (c : Cache) → Filled c → (o : Option (List ℕ)) → slotsOf (cacheSearched d ws c o) ≡ slotsSearched d rs (slotsOf c) o
   searched-slots c f none = refl
   searched-slots c f (some vs) =
       lookup-slots c f ws d vs ∙ ap (λ (L : List PolicyRow). triedSlots (slotsOf c) (firstRow d (cached c) vs) (firstRow d L vs)) is
 
-emptied-slots : (c : Cache) (o : Option (List PolicyRow)) → slotsOf (cacheOr c o) ≡ slotsOr (slotsOf c) o
+emptied-slots : (c : Cache) (o : Option Rules) → slotsOf (cacheOr c o) ≡ slotsOr (slotsOf c) o
 emptied-slots c none = refl
 emptied-slots c (some rs) = ap (λ (L : List PolicyRow). record { taken = L; turn = 0 }) empty-cached
 
 module _ (capacity limit : ℕ) (bound : limit ≤ capacity) (d : Direction) (address : ℕ) where
-  slots-after : (rs : List PolicyRow) (g : Gateway) → Sound capacity limit address rs g → (c : Call)
+  slots-after : (rs : Rules) (g : Gateway) → Sound capacity limit address rs g → (c : Call)
       → slotsOf (cacheOf d (after capacity limit g c .caches))
       ≡ slotsOr (slotsSearched d rs (slotsOf (cacheOf d (g .caches))) (searched d address c)) (accepts limit c)
   slots-after rs g s c =
@@ -81,7 +82,7 @@ module _ (capacity limit : ℕ) (bound : limit ≤ capacity) (d : Direction) (ad
       ∙ ap (λ (a : ℕ). slotsOr (slotsSearched d rs (slotsOf (cacheOf d (g .caches))) (searched d a c)) (accepts limit c))
       (address-kept capacity limit address rs g s)
 
-  slots-run : (rs : List PolicyRow) (g : Gateway) → Sound capacity limit address rs g → (cs : List Call)
+  slots-run : (rs : Rules) (g : Gateway) → Sound capacity limit address rs g → (cs : List Call)
       → slotsOf (cacheOf d (run capacity limit g cs .caches)) ≡ slotsFrom limit d address rs (slotsOf (cacheOf d (g .caches))) cs
   unfolding run slotsFrom
   slots-run rs g s [] = refl
@@ -90,12 +91,12 @@ module _ (capacity limit : ℕ) (bound : limit ≤ capacity) (d : Direction) (ad
       ∙ ap (λ (t : Slots). slotsFrom limit d address (instead rs (accepts limit c)) t cs) (slots-after rs g s c)
 
 fresh-slots : (d : Direction) → slotsOf (cacheOf d emptyCaches) ≡ noSlots
-fresh-slots Out = emptied-slots emptyCache (some [])
-fresh-slots In = emptied-slots emptyCache (some [])
+fresh-slots Out = emptied-slots emptyCache (some noRules)
+fresh-slots In = emptied-slots emptyCache (some noRules)
 
 -- After any sequence of calls the slots of each direction are those that the rule makes of the calls.
 pub slot-rule : (capacity limit : ℕ) → limit ≤ capacity → (d : Direction) (address : ℕ) (cs : List Call)
     → slotsOf (cacheOf d (run capacity limit (fresh capacity address) cs .caches)) ≡ slots limit d address cs
 slot-rule capacity limit bound d address cs =
-    slots-run capacity limit bound d address [] (fresh capacity address) (fresh-sound capacity limit address) cs
-    ∙ ap (λ (t : Slots). slotsFrom limit d address [] t cs) (fresh-slots d)
+    slots-run capacity limit bound d address noRules (fresh capacity address) (fresh-sound capacity limit address) cs
+    ∙ ap (λ (t : Slots). slotsFrom limit d address noRules t cs) (fresh-slots d)
