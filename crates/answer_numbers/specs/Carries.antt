@@ -11,7 +11,7 @@ use Rattle.same_policy.specs.Same.{comparedCarries, comparedFile}
 
 -- What the answers to parsing and printing carry: the count of rows or of bytes, what a refusal carries.
 abbrev pub parsedCarries : Parsed → ℕ
-parsedCarries (Rows n) = n
+parsedCarries (Rows e n) = n
 parsedCarries (Refused r) = refusalCarries r
 parsedCarries NoRoom = 0
 

@@ -110,7 +110,7 @@ pub fn parsed_number(parsed: Parsed) -> u64
     ensures { λ r. ⌜ r ≡ parsedNumber parsed ⌝ }
 {
     match parsed {
-        Parsed::Rows(_) => 5,
+        Parsed::Rows(_, _) => 5,
         Parsed::Refused(refusal) => refusal_number(refusal),
         Parsed::NoRoom => 31,
     }
@@ -120,7 +120,7 @@ pub fn parsed_carries(parsed: Parsed) -> u64
     ensures { λ r. ⌜ r ≡ parsedCarries parsed ⌝ }
 {
     match parsed {
-        Parsed::Rows(count) => count as u64,
+        Parsed::Rows(_, count) => count as u64,
         Parsed::Refused(refusal) => refusal_carries(refusal),
         Parsed::NoRoom => 0,
     }

@@ -9,10 +9,11 @@ use lib.Seq.{take-at}
 use borrow.Author.Tests.{le-leb, lt-leb}
 use Rattle.selectors.specs.declared.Direction.{Direction}
 use Rattle.policy.specs.Words.{rowLimit}
-use Rattle.policy.specs.Policy.{PolicyRow, asPolicy}
-use Rattle.policy_text.specs.Editions.{Policy, refused, rows, parsePolicy}
+use Rattle.policy.specs.Policy.{asPolicy}
+use Rattle.policy_text.specs.Editions.{formatOf, Rules, Policy, refused, rows, parsePolicy}
 use Rattle.policy_round_trip.specs.Accepted.{parse-printable}
-use Rattle.policy_round_trip.specs.Files.{policy-length}
+use Rattle.policy_round_trip.specs.EditionsLaws.{lawful}
+use Rattle.policy_round_trip.specs.LengthLaws.{policy-length}
 use Rattle.policy_round_trip.specs.NormalForms.{normal-form-printable}
 use Rattle.normaliser.specs.declared.Normalised.{Normalised}
 use Rattle.normaliser.specs.declared.Normalised.the-variants.{Printed, Refused, TooLarge, NoRoom}
@@ -25,7 +26,7 @@ formBytes = 9 + rowLimit * 120
 
 -- What normalising may answer a policy of those rows with room for any normal-form file: its file at the start of the room, or 22. 'A call for one
 -- way alone tries 22 for that way only; 31 comes last', and here never comes.
-unfoldable pub PolicyAnswered : Direction → List PolicyRow → List ℕ → Normalised → Type 0
+unfoldable pub PolicyAnswered : Direction → Rules → List ℕ → Normalised → Type 0
 PolicyAnswered d rs room (Printed n) = (length (form d rs) ≤ rowLimit) × (n ≤ length room) × (take n room ≡ formFile d rs)
 PolicyAnswered d rs room (Refused r) = ⊥
 PolicyAnswered d rs room (TooLarge w) = (rowLimit < length (form d rs)) × (w ≡ d)
@@ -42,14 +43,15 @@ IsFormFile d (rows rs) text = (length (form d rs) ≤ rowLimit) × (text ≡ for
 IsFormFile d (refused r) text = ⊥
 
 module _ (d : Direction) (s room : List ℕ) (enough : formBytes ≤ length room) where
-  answered-rows : (rs : List PolicyRow) → parsePolicy rowLimit s ≡ rows rs
+  answered-rows : (rs : Rules) → parsePolicy rowLimit s ≡ rows rs
       → Answered d (rows rs) (normalisedBytes rowLimit d room (rows rs)) (normalised rowLimit d (length room) (rows rs))
   unfolding Answered PolicyAnswered
   answered-rows rs e = by (decLe (length (form d rs)) rowLimit)
     where
       by : Dec (length (form d rs) ≤ rowLimit) → Answered d (rows rs) (normalisedBytes rowLimit d room (rows rs)) (normalised rowLimit d (length room) (rows rs))
       by (yes h) =
-          let most = policy-length (asPolicy d (form d rs)) (normal-form-printable d rs (parse-printable rowLimit s rs e .0)) in
+          let most = policy-length (rs .edition) (asPolicy d (form d rs))
+          (normal-form-printable (formatOf (rs .edition)) (lawful (rs .edition)) d (rs .entries) (parse-printable rowLimit s rs e .0)) in
           let count : length (asPolicy d (form d rs)) ≡ length (form d rs) = rw length-map in
           let fits : length (formFile d rs) ≤ length room = omega (arith, most, count) in
           rw (le-leb (length (form d rs)) rowLimit h, le-leb (length (formFile d rs)) (length room) fits)

@@ -8,6 +8,7 @@ use policy::ROW_WORDS;
 use policy_parse::parse;
 use policy_print::Printed;
 use policy_print::print;
+use policy_text::Edition;
 use policy_text::Parsed;
 use policy_text::Refusal;
 use policy_text::before;
@@ -62,7 +63,7 @@ fn answer(bytes: &[u8]) {
 // Document 01's number of the answer, and what it carries.
 fn show(parsed: Parsed, rows: &[u64]) {
     match parsed {
-        Parsed::Rows(n) => show_rows(rows, n),
+        Parsed::Rows(edition, n) => show_rows(edition, rows, n),
         Parsed::Refused(refusal) => show_refusal(refusal),
         Parsed::NoRoom => say(b"no room"),
     }
@@ -77,22 +78,22 @@ fn show_refusal(refusal: Refusal) {
     }
 }
 
-fn show_rows(rows: &[u64], n: usize) {
+fn show_rows(edition: Edition, rows: &[u64], n: usize) {
     show_count(b"5, rows ", n);
     if n <= LIMIT {
-        print_first(rows, n * ROW_WORDS);
+        print_first(edition, rows, n * ROW_WORDS);
     }
 }
 
-fn print_first(rows: &[u64], words: usize) {
+fn print_first(edition: Edition, rows: &[u64], words: usize) {
     if words <= rows.len() {
-        print_rows(&rows[..words]);
+        print_rows(edition, &rows[..words]);
     }
 }
 
-fn print_rows(rows: &[u64]) {
+fn print_rows(edition: Edition, rows: &[u64]) {
     let mut text = [0u8; 30000];
-    let printed = print(rows, Direction::Out, &mut text);
+    let printed = print(edition, rows, Direction::Out, &mut text);
     match printed {
         Printed::Bytes(n) => write_first(&text, n),
         Printed::NoRoom => say(b"31"),

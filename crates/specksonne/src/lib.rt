@@ -12,7 +12,7 @@ ghost use Rattle.policy_parse.specs.Parsing.{parsedIn, parsedRoom, parsedNumber
 ghost use Rattle.policy_print.specs.Printing.{printed, printedIn, printedRoom, printedNumber};
 ghost use Rattle.normaliser.specs.Normalise.{normalised, normalisedBytes, normalisedNumber, normalisedCarries};
 ghost use Rattle.same_policy.specs.Same.{compared, comparedNumber};
-ghost use Rattle.spd.specs.Spd.{spdWords, accepting, spdAfter, cachesAfter, acceptanceNumber, acceptanceCarries};
+ghost use Rattle.spd.specs.Spd.{spdWords, noRules, accepting, spdAfter, cachesAfter, acceptanceNumber, acceptanceCarries};
 ghost use Rattle.spd_words.specs.Words.{addressOf, rowsOf, spdSize};
 ghost use Rattle.sad.specs.Pairs.{tableWords, pairs, live, addOutcome, added, removeOutcome, removed, outcomeNumber};
 ghost use Rattle.spd_cache.specs.Cache.{emptyCache};
@@ -28,6 +28,7 @@ use packet::Reading;
 use policy::LIMIT;
 use policy::ROW_WORDS;
 use policy::Row;
+use policy_text::Edition;
 use sad::TABLE_WORDS;
 use selectors::Direction;
 use selectors::words::RANGES_WORDS;
@@ -124,7 +125,7 @@ pub extern "C" fn specksonne_fresh(
     inbound: &mut [u64; CACHE_WORDS],
     address: u32,
 )
-    ensures { λ _. ⌜ now (policy .exit) ≡ spdWords rowLimit address [] ⌝ }
+    ensures { λ _. ⌜ now (policy .exit) ≡ spdWords rowLimit address noRules ⌝ }
     ensures { λ _. ⌜ (now (table .exit) ≡ replicate tableWords 0) × (pairs (now (table .exit)) ≡ []) ⌝ }
     ensures { λ _. ⌜ (now (outbound .exit) ≡ cacheWords emptyCache) × (now (inbound .exit) ≡ cacheWords emptyCache) ⌝ }
 {
@@ -274,7 +275,7 @@ pub extern "C" fn specksonne_parse(bytes: &[u8], rows: &mut [u64], carries: &mut
     answer_numbers::parsed_number(parsed)
 }
 
-// Prints rows as a policy file of one direction (`policy_print::print`).
+// Prints rows as a policy file of edition 1 for one direction (`policy_print::print`).
 #[no_mangle]
 pub extern "C" fn specksonne_print(
     rows: &[u64],
@@ -282,11 +283,11 @@ pub extern "C" fn specksonne_print(
     out: &mut [u8],
     carries: &mut u64,
 ) -> u64
-    ensures { λ r. ⌜ r ≡ printedNumber (printedIn (length (now (out .entry))) (printed (directionFrom direction) (policyRows (now (rows .entry))))) ⌝ }
-    ensures { λ _. ⌜ now (out .exit) ≡ printedRoom (now (out .entry)) (printed (directionFrom direction) (policyRows (now (rows .entry)))) ⌝ }
-    ensures { λ _. ⌜ now (carries .exit) ≡ printedCarries (printedIn (length (now (out .entry))) (printed (directionFrom direction) (policyRows (now (rows .entry))))) ⌝ }
+    ensures { λ r. ⌜ r ≡ printedNumber (printedIn (length (now (out .entry))) (printed Edition.One (directionFrom direction) (policyRows (now (rows .entry))))) ⌝ }
+    ensures { λ _. ⌜ now (out .exit) ≡ printedRoom (now (out .entry)) (printed Edition.One (directionFrom direction) (policyRows (now (rows .entry)))) ⌝ }
+    ensures { λ _. ⌜ now (carries .exit) ≡ printedCarries (printedIn (length (now (out .entry))) (printed Edition.One (directionFrom direction) (policyRows (now (rows .entry))))) ⌝ }
 {
-    let printed = policy_print::print(rows, abi::direction_from(direction), out);
+    let printed = policy_print::print(Edition::One, rows, abi::direction_from(direction), out);
     *carries = answer_numbers::printed_carries(printed);
     answer_numbers::printed_number(printed)
 }
