@@ -1,10 +1,11 @@
 // Document 01's number of each answer, and what the answer carries.
 ghost use mathlib.Core.Path.{_≡_};
+ghost use Rattle.policy_text.specs.Editions.{refusalNumber, refusalCarries};
 ghost use Rattle.policy_parse.specs.Parsing.{parsedNumber};
 ghost use Rattle.policy_print.specs.Printing.{printedNumber};
 ghost use Rattle.decorrelate.specs.Form.{directionNumber};
 ghost use Rattle.normaliser.specs.Normalise.{normalisedNumber, normalisedCarries};
-ghost use Rattle.same_policy.specs.Same.{comparedNumber, refusedCarries};
+ghost use Rattle.same_policy.specs.Same.{comparedNumber};
 ghost use Rattle.spd.specs.Spd.{acceptanceNumber, acceptanceCarries};
 ghost use Rattle.sad.specs.Pairs.{outcomeNumber};
 ghost use Rattle.verdicts.specs.Verdict.{verdictNumber, carried};
@@ -12,6 +13,7 @@ ghost use Rattle.answer_numbers.specs.Carries.{parsedCarries, printedCar
 use normaliser::Normalised;
 use policy_print::Printed;
 use policy_text::Parsed;
+use policy_text::Refusal;
 use sad::Outcome;
 use same_policy::Compared;
 use selectors::Direction;
@@ -82,15 +84,34 @@ pub fn outcome_number(outcome: Outcome) -> u64
     }
 }
 
+pub fn refusal_number(refusal: Refusal) -> u64
+    ensures { λ r. ⌜ r ≡ refusalNumber refusal ⌝ }
+{
+    match refusal {
+        Refusal::NotHeader => 23,
+        Refusal::NotEnded => 24,
+        Refusal::TooMany => 21,
+        Refusal::BadRow(_) => 20,
+    }
+}
+
+pub fn refusal_carries(refusal: Refusal) -> u64
+    ensures { λ r. ⌜ r ≡ refusalCarries refusal ⌝ }
+{
+    match refusal {
+        Refusal::NotHeader => 0,
+        Refusal::NotEnded => 0,
+        Refusal::TooMany => 0,
+        Refusal::BadRow(row) => row as u64,
+    }
+}
+
 pub fn parsed_number(parsed: Parsed) -> u64
     ensures { λ r. ⌜ r ≡ parsedNumber parsed ⌝ }
 {
     match parsed {
         Parsed::Rows(_) => 5,
-        Parsed::NotHeader => 23,
-        Parsed::NotEnded => 24,
-        Parsed::TooMany => 21,
-        Parsed::BadRow(_) => 20,
+        Parsed::Refused(refusal) => refusal_number(refusal),
         Parsed::NoRoom => 31,
     }
 }
@@ -100,10 +121,7 @@ pub fn parsed_carries(parsed: Parsed) -> u64
 {
     match parsed {
         Parsed::Rows(count) => count as u64,
-        Parsed::NotHeader => 0,
-        Parsed::NotEnded => 0,
-        Parsed::TooMany => 0,
-        Parsed::BadRow(row) => row as u64,
+        Parsed::Refused(refusal) => refusal_carries(refusal),
         Parsed::NoRoom => 0,
     }
 }
@@ -131,10 +149,7 @@ pub fn normalised_number(normalised: Normalised) -> u64
 {
     match normalised {
         Normalised::Printed(_) => 5,
-        Normalised::NotHeader => 23,
-        Normalised::NotEnded => 24,
-        Normalised::TooMany => 21,
-        Normalised::BadRow(_) => 20,
+        Normalised::Refused(refusal) => refusal_number(refusal),
         Normalised::TooLarge(_) => 22,
         Normalised::NoRoom => 31,
     }
@@ -145,10 +160,7 @@ pub fn normalised_carries(normalised: Normalised) -> u64
 {
     match normalised {
         Normalised::Printed(count) => count as u64,
-        Normalised::NotHeader => 0,
-        Normalised::NotEnded => 0,
-        Normalised::TooMany => 0,
-        Normalised::BadRow(row) => row as u64,
+        Normalised::Refused(refusal) => refusal_carries(refusal),
         Normalised::TooLarge(direction) => direction_number(direction),
         Normalised::NoRoom => 0,
     }
@@ -159,10 +171,7 @@ pub fn acceptance_number(acceptance: Acceptance) -> u64
 {
     match acceptance {
         Acceptance::Accepted => 5,
-        Acceptance::NotHeader => 23,
-        Acceptance::NotEnded => 24,
-        Acceptance::TooMany => 21,
-        Acceptance::BadRow(_) => 20,
+        Acceptance::Refused(refusal) => refusal_number(refusal),
         Acceptance::TooLarge(_) => 22,
     }
 }
@@ -172,24 +181,8 @@ pub fn acceptance_carries(acceptance: Acceptance) -> u64
 {
     match acceptance {
         Acceptance::Accepted => 0,
-        Acceptance::NotHeader => 0,
-        Acceptance::NotEnded => 0,
-        Acceptance::TooMany => 0,
-        Acceptance::BadRow(row) => row as u64,
+        Acceptance::Refused(refusal) => refusal_carries(refusal),
         Acceptance::TooLarge(direction) => direction_number(direction),
-    }
-}
-
-fn refused_carries(parsed: Parsed) -> u64
-    ensures { λ r. ⌜ r ≡ refusedCarries parsed ⌝ }
-{
-    match parsed {
-        Parsed::Rows(_) => 0,
-        Parsed::NotHeader => 0,
-        Parsed::NotEnded => 0,
-        Parsed::TooMany => 0,
-        Parsed::BadRow(row) => row as u64,
-        Parsed::NoRoom => 0,
     }
 }
 
@@ -199,8 +192,8 @@ pub fn compared_number(compared: Compared) -> u64
     match compared {
         Compared::Same => 5,
         Compared::Different => 5,
-        Compared::FirstRefused(parsed) => parsed_number(parsed),
-        Compared::SecondRefused(parsed) => parsed_number(parsed),
+        Compared::FirstRefused(refusal) => refusal_number(refusal),
+        Compared::SecondRefused(refusal) => refusal_number(refusal),
     }
 }
 
@@ -210,7 +203,7 @@ pub fn compared_carries(compared: Compared) -> [u64; 2]
     match compared {
         Compared::Same => [1, 0],
         Compared::Different => [0, 0],
-        Compared::FirstRefused(parsed) => [refused_carries(parsed), 1],
-        Compared::SecondRefused(parsed) => [refused_carries(parsed), 2],
+        Compared::FirstRefused(refusal) => [refusal_carries(refusal), 1],
+        Compared::SecondRefused(refusal) => [refusal_carries(refusal), 2],
     }
 }

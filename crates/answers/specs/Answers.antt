@@ -21,8 +21,8 @@ use Rattle.sad.specs.declared.NewPair.{NewPair}
 use Rattle.sad.specs.declared.PairFound.the-variants.{Found, Nothing}
 use Rattle.verdicts.specs.Calls.{shows, spiOf, outboundBy, inboundBy, fromSaBy}
 use Rattle.verdicts.specs.Verdict.{verdictNumber, carried}
-use Rattle.policy_text.specs.declared.Parsed.the-variants.{NotHeader, NotEnded, TooMany, BadRow}
-use Rattle.policy_text.specs.Format.{refused, rows, parsePolicy}
+use Rattle.policy_text.specs.declared.Refusal.the-variants.{NotHeader, NotEnded, TooMany, BadRow}
+use Rattle.policy_text.specs.Editions.{refused, rows, parsePolicy}
 use Rattle.decorrelate.specs.Form.{form, directionNumber}
 use Rattle.normaliser.specs.Normalise.{formFile, normalisedNumber, normalisedCarries}
 use Rattle.spd.specs.Spd.{acceptanceNumber, acceptanceCarries}

@@ -14,12 +14,13 @@ use Rattle.verdicts.specs.Calls.{outboundBy, inboundBy, fromSaBy}
 use Rattle.verdicts.specs.Verdict.{verdictNumber, carried}
 use Rattle.verdicts.specs.declared.Verdict.{Verdict}
 use Rattle.verdicts.specs.declared.Verdict.the-variants.{Pass, Deliver, Protect, Wanted, ToIpsec, NotReadable, Discarded, CameInClear, NoSuchPair, DoesNotFit, IpsecFragment, IpsecTooShort, TriggerUnreadable, TriggerDoesNotFit}
+use Rattle.policy_text.specs.declared.Refusal.the-variants.{NotHeader, NotEnded, TooMany, BadRow}
 use Rattle.normaliser.specs.Normalise.{normalisedNumber, normalisedCarries}
 use Rattle.normaliser.specs.declared.Normalised.{Normalised}
-use Rattle.normaliser.specs.declared.Normalised.the-variants.{Printed, NotHeader, NotEnded, TooMany, BadRow, TooLarge, NoRoom}
+use Rattle.normaliser.specs.declared.Normalised.the-variants.{Printed, Refused, TooLarge, NoRoom}
 use Rattle.spd.specs.Spd.{acceptanceNumber, acceptanceCarries}
 use Rattle.spd.specs.declared.Acceptance.{Acceptance}
-use Rattle.spd.specs.declared.Acceptance.the-variants.{Accepted, NotHeader as NoHeader, NotEnded as NoEnd, TooMany as OverRows, BadRow as Bad, TooLarge as OverForm}
+use Rattle.spd.specs.declared.Acceptance.the-variants.{Accepted, Refused as RefusedFile, TooLarge as OverForm}
 use Rattle.answers.specs.Among.{among, among-list}
 use Rattle.answers.specs.Terms.{normalisedFile, acceptedFile}
 use Rattle.answers.specs.PacketRules.{OutboundRule, InboundRule, FromSaRule, outbound-ruled, inbound-ruled, from-sa-ruled}
@@ -135,10 +136,10 @@ accept-answers limit s = among-list _ _ (by (acceptedFile limit s))
   where
     by : (a : Acceptance) → among (acceptanceNumber a) acceptNumbers ≡ true
     by Accepted = refl
-    by NoHeader = refl
-    by NoEnd = refl
-    by OverRows = refl
-    by (Bad i) = refl
+    by (RefusedFile NotHeader) = refl
+    by (RefusedFile NotEnded) = refl
+    by (RefusedFile TooMany) = refl
+    by (RefusedFile (BadRow i)) = refl
     by (OverForm w) = refl
 
 -- Normalising.
@@ -151,10 +152,10 @@ normalise-answers limit d room s = among-list _ _ (by (normalisedFile limit d ro
   where
     by : (a : Normalised) → among (normalisedNumber a) normaliseNumbers ≡ true
     by (Printed n) = refl
-    by NotHeader = refl
-    by NotEnded = refl
-    by TooMany = refl
-    by (BadRow i) = refl
+    by (Refused NotHeader) = refl
+    by (Refused NotEnded) = refl
+    by (Refused TooMany) = refl
+    by (Refused (BadRow i)) = refl
     by (TooLarge w) = refl
     by NoRoom = refl
 
@@ -178,17 +179,17 @@ packet-zeros TriggerDoesNotFit n = refl
 
 pub policy-zeros : (a : Acceptance) → (List·Memᴰ (acceptanceNumber a) (20 ∷ 22 ∷ []) → ⊥) → acceptanceCarries a ≡ 0
 policy-zeros Accepted n = refl
-policy-zeros NoHeader n = refl
-policy-zeros NoEnd n = refl
-policy-zeros OverRows n = refl
-policy-zeros (Bad i) n = absurd (n (among-list 20 _ refl))
+policy-zeros (RefusedFile NotHeader) n = refl
+policy-zeros (RefusedFile NotEnded) n = refl
+policy-zeros (RefusedFile TooMany) n = refl
+policy-zeros (RefusedFile (BadRow i)) n = absurd (n (among-list 20 _ refl))
 policy-zeros (OverForm w) n = absurd (n (among-list 22 _ refl))
 
 pub print-zeros : (a : Normalised) → (List·Memᴰ (normalisedNumber a) (5 ∷ 20 ∷ 22 ∷ []) → ⊥) → normalisedCarries a ≡ 0
 print-zeros (Printed m) n = absurd (n (among-list 5 _ refl))
-print-zeros NotHeader n = refl
-print-zeros NotEnded n = refl
-print-zeros TooMany n = refl
-print-zeros (BadRow i) n = absurd (n (among-list 20 _ refl))
+print-zeros (Refused NotHeader) n = refl
+print-zeros (Refused NotEnded) n = refl
+print-zeros (Refused TooMany) n = refl
+print-zeros (Refused (BadRow i)) n = absurd (n (among-list 20 _ refl))
 print-zeros (TooLarge w) n = absurd (n (among-list 22 _ refl))
 print-zeros NoRoom n = refl

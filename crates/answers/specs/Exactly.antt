@@ -14,12 +14,14 @@ use Rattle.verdicts.specs.declared.Verdict.the-variants.{Pass, Deliver, Protect
 use Rattle.sad.specs.Pairs.{outcomeNumber}
 use Rattle.sad.specs.declared.Outcome.{Outcome}
 use Rattle.sad.specs.declared.Outcome.the-variants.{Done, ReservedSpi, AlreadyLive, TableFull, BadPair, NothingToRemove}
+use Rattle.policy_text.specs.declared.Refusal.{Refusal}
+use Rattle.policy_text.specs.declared.Refusal.the-variants.{NotHeader, NotEnded, TooMany, BadRow}
 use Rattle.normaliser.specs.Normalise.{normalisedNumber, normalisedCarries}
 use Rattle.normaliser.specs.declared.Normalised.{Normalised}
-use Rattle.normaliser.specs.declared.Normalised.the-variants.{Printed, NotHeader, NotEnded, TooMany, BadRow, TooLarge, NoRoom}
+use Rattle.normaliser.specs.declared.Normalised.the-variants.{Printed, Refused, TooLarge, NoRoom}
 use Rattle.spd.specs.Spd.{acceptanceNumber, acceptanceCarries}
 use Rattle.spd.specs.declared.Acceptance.{Acceptance}
-use Rattle.spd.specs.declared.Acceptance.the-variants.{Accepted, NotHeader as NoHeader, NotEnded as NoEnd, TooMany as OverRows, BadRow as Bad, TooLarge as OverForm}
+use Rattle.spd.specs.declared.Acceptance.the-variants.{Accepted, Refused as RefusedFile, TooLarge as OverForm}
 
 -- A rule for each answer: the answer's own rule holds, and no other answer's does.
 pub record Ruled {A : Type 0} (Rule : A → Type 0) (a : A) : Type 0 where
@@ -107,6 +109,10 @@ pub outcome-exactly : {Rule : Outcome → Type 0} {o : Outcome} → Ruled Rule o
     → (outcomeNumber o ≡ n) ↔ Rule (outcomeOf n)
 outcome-exactly r = by-number outcomeNumber (λ (o : Outcome). 0) (λ (n x : ℕ). outcomeOf n) outcome-told r
 
+-- The refusal of a file, of a number and a value.
+abbrev pub refusalOf : ℕ → ℕ → Refusal
+refusalOf n x = cond (eqb n 20) (BadRow x) (cond (eqb n 21) TooMany (cond (eqb n 23) NotHeader NotEnded))
+
 -- The answer of a print, of a number and a value.
 abbrev pub directionOf : ℕ → Direction
 directionOf x = cond (eqb x 1) Out In
@@ -114,19 +120,16 @@ directionOf x = cond (eqb x 1) Out In
 abbrev pub normalisedOf : ℕ → ℕ → Normalised
 normalisedOf n x =
     cond (eqb n 5) (Printed x)
-    (cond (eqb n 20) (BadRow x)
-    (cond (eqb n 21) TooMany
     (cond (eqb n 22) (TooLarge (directionOf x))
-    (cond (eqb n 23) NotHeader
-    (cond (eqb n 24) NotEnded
-    NoRoom)))))
+    (cond (eqb n 31) NoRoom
+    (Refused (refusalOf n x))))
 
 normalised-told : (a : Normalised) → normalisedOf (normalisedNumber a) (normalisedCarries a) ≡ a
 normalised-told (Printed n) = refl
-normalised-told NotHeader = refl
-normalised-told NotEnded = refl
-normalised-told TooMany = refl
-normalised-told (BadRow i) = refl
+normalised-told (Refused NotHeader) = refl
+normalised-told (Refused NotEnded) = refl
+normalised-told (Refused TooMany) = refl
+normalised-told (Refused (BadRow i)) = refl
 normalised-told (TooLarge Out) = refl
 normalised-told (TooLarge In) = refl
 normalised-told NoRoom = refl
@@ -144,18 +147,15 @@ module _ {Rule : Normalised → Type 0} {a : Normalised} (r : Ruled Rule a) wher
 abbrev pub acceptanceOf : ℕ → ℕ → Acceptance
 acceptanceOf n x =
     cond (eqb n 5) Accepted
-    (cond (eqb n 20) (Bad x)
-    (cond (eqb n 21) OverRows
     (cond (eqb n 22) (OverForm (directionOf x))
-    (cond (eqb n 23) NoHeader
-    NoEnd))))
+    (RefusedFile (refusalOf n x)))
 
 acceptance-told : (a : Acceptance) → acceptanceOf (acceptanceNumber a) (acceptanceCarries a) ≡ a
 acceptance-told Accepted = refl
-acceptance-told NoHeader = refl
-acceptance-told NoEnd = refl
-acceptance-told OverRows = refl
-acceptance-told (Bad i) = refl
+acceptance-told (RefusedFile NotHeader) = refl
+acceptance-told (RefusedFile NotEnded) = refl
+acceptance-told (RefusedFile TooMany) = refl
+acceptance-told (RefusedFile (BadRow i)) = refl
 acceptance-told (OverForm Out) = refl
 acceptance-told (OverForm In) = refl
 

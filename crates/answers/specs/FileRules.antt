@@ -11,16 +11,19 @@ use lib.ListN.{length, getD, take, drop}
 use Rattle.selectors.specs.declared.Direction.{Direction}
 use Rattle.selectors.specs.declared.Direction.the-variants.{Out, In}
 use Rattle.policy.specs.Policy.{PolicyRow}
-use Rattle.policy_text.specs.declared.Parsed.the-variants.{Rows, NotHeader, NotEnded, TooMany, BadRow, NoRoom}
+use Rattle.policy_text.specs.declared.Refusal.{Refusal}
+use Rattle.policy_text.specs.declared.Refusal.the-variants.{NotHeader, NotEnded, TooMany, BadRow}
 use Rattle.policy_text.specs.Bytes.{lf, after, sameBytes}
-use Rattle.policy_text.specs.Format.{header, rowOf, linesOf, Policy, refused, rows, ontoRow, rowsOf, parsePolicy}
+use Rattle.policy_text.specs.Format.{rowOf, linesOf, Lines, allRows, badRow, ontoRow, rowsOf}
+use Rattle.policy_text.specs.Edition1.{header}
+use Rattle.policy_text.specs.Editions.{Policy, refused, rows, policyOf, parsePolicy}
 use Rattle.decorrelate.specs.Form.{form, directionNumber}
 use Rattle.normaliser.specs.Normalise.{formFile, normalised, normalisedNumber, normalisedCarries}
 use Rattle.normaliser.specs.declared.Normalised.{Normalised}
-use Rattle.normaliser.specs.declared.Normalised.the-variants.{Printed, NotHeader as NoHeader, NotEnded as NoEnd, TooMany as OverRows, BadRow as Bad, TooLarge, NoRoom as Short}
+use Rattle.normaliser.specs.declared.Normalised.the-variants.{Printed, Refused, TooLarge, NoRoom as Short}
 use Rattle.spd.specs.Spd.{accepting}
 use Rattle.spd.specs.declared.Acceptance.{Acceptance}
-use Rattle.spd.specs.declared.Acceptance.the-variants.{Accepted, NotHeader as RefusedHeader, NotEnded as RefusedEnd, TooMany as RefusedCount, BadRow as RefusedRow, TooLarge as RefusedForm}
+use Rattle.spd.specs.declared.Acceptance.the-variants.{Accepted, Refused as RefusedFile, TooLarge as RefusedForm}
 use Rattle.answers.specs.Decides.{Decides, holding, failing, is-true, is-false, decides-iff, decides-and, decides-le, decides-eq}
 use Rattle.answers.specs.Terms.{HasHeader, EndsInLf, rowCount, rowLines, FirstBadRow, RowsAre, normalisedFile, acceptedFile}
 use Rattle.answers.specs.Exactly.{Ruled, normalised-exactly}
@@ -40,14 +43,9 @@ record FirstBad (ls : List (List ℕ)) (m : ℕ) : Type 0 where
   good-before : (j : ℕ) → j < m → (r : PolicyRow) × (rowOf (getD ls j []) ≡ some r)
 
 -- Lines of which the first is row i.
-abbrev LinesRule : ℕ → List (List ℕ) → Policy → Type 0
-LinesRule i ls (rows rs) = map rowOf ls ≡ map some rs
-LinesRule i ls (refused (BadRow k)) = (m : ℕ) × (k ≡ i + m) × FirstBad ls m
-LinesRule i ls (refused (Rows n)) = ⊥
-LinesRule i ls (refused NotHeader) = ⊥
-LinesRule i ls (refused NotEnded) = ⊥
-LinesRule i ls (refused TooMany) = ⊥
-LinesRule i ls (refused NoRoom) = ⊥
+abbrev LinesRule : ℕ → List (List ℕ) → Lines → Type 0
+LinesRule i ls (allRows rs) = map rowOf ls ≡ map some rs
+LinesRule i ls (badRow k) = (m : ℕ) × (k ≡ i + m) × FirstBad ls m
 
 first-line : (l : List ℕ) (ls : List (List ℕ)) → rowOf l ≡ none → FirstBad (l ∷ ls) 0
 first-line l ls e = record { there = omega arith; is-bad = e; good-before = λ j h. absurd (omega arith) }
@@ -64,17 +62,12 @@ unfolding rowsOf
 lines-hold i [] = refl
 lines-hold i (l ∷ ls) = by (rowOf l) refl (rowsOf (i + 1) ls) (lines-hold (i + 1) ls)
   where
-    by : (o : Option PolicyRow) → rowOf l ≡ o → (rest : Policy) → LinesRule (i + 1) ls rest → LinesRule i (l ∷ ls) (ontoRow i o rest)
+    by : (o : Option PolicyRow) → rowOf l ≡ o → (rest : Lines) → LinesRule (i + 1) ls rest → LinesRule i (l ∷ ls) (ontoRow i o rest)
     by none e rest h = (0, omega arith, first-line l ls e)
-    by (some r) e (rows rs) h = cc
-    by (some r) e (refused (BadRow k)) h = (suc (h .0), omega arith, next-line l ls r (h .0) e (h .2))
-    by (some r) e (refused (Rows n)) h = absurd h
-    by (some r) e (refused NotHeader) h = absurd h
-    by (some r) e (refused NotEnded) h = absurd h
-    by (some r) e (refused TooMany) h = absurd h
-    by (some r) e (refused NoRoom) h = absurd h
+    by (some r) e (allRows rs) h = cc
+    by (some r) e (badRow k) h = (suc (h .0), omega arith, next-line l ls r (h .0) e (h .2))
 
-all-rows : (i : ℕ) (ls : List (List ℕ)) (rs : List PolicyRow) → map rowOf ls ≡ map some rs → rowsOf i ls ≡ rows rs
+all-rows : (i : ℕ) (ls : List (List ℕ)) (rs : List PolicyRow) → map rowOf ls ≡ map some rs → rowsOf i ls ≡ allRows rs
 unfolding rowsOf
 all-rows i [] [] e = refl
 all-rows i [] (r ∷ rs) e = cc
@@ -84,10 +77,10 @@ all-rows i (l ∷ ls) (r ∷ rs) e =
     let b : map rowOf ls ≡ map some rs = cc in
     rw (a, all-rows (i + 1) ls rs b)
 
-first-bad : (i : ℕ) (ls : List (List ℕ)) (m : ℕ) → FirstBad ls m → rowsOf i ls ≡ refused (BadRow (i + m))
+first-bad : (i : ℕ) (ls : List (List ℕ)) (m : ℕ) → FirstBad ls m → rowsOf i ls ≡ badRow (i + m)
 unfolding rowsOf
 first-bad i [] m f = absurd (omega (arith, f .there))
-first-bad i (l ∷ ls) zero f = let e : i ≡ i + zero = omega arith in rw (f .is-bad) (ap (λ (n : ℕ). refused (BadRow n)) e)
+first-bad i (l ∷ ls) zero f = let e : i ≡ i + zero = omega arith in rw (f .is-bad) (ap badRow e)
 first-bad i (l ∷ ls) (suc m) f =
     let g = f .good-before 0 (omega arith) in
     let rest : FirstBad ls m = record { there = omega (arith, f .there); is-bad = f .is-bad; good-before = λ j h. f .good-before (suc j) (omega arith) } in
@@ -122,15 +115,17 @@ module _ (s : List ℕ) where
       good : (j : ℕ) → j < i - 1 → (r : PolicyRow) × (rowOf (getD (rowLines s) j []) ≡ some r)
       good j h = let e : suc j - 1 ≡ j = omega arith in rw e at (f .good-before (suc j) (omega arith) (omega arith))
 
+-- The refusals of a file, the same for every call: 'in the order 23, 24, 21, 20 (first bad row)'.
+abbrev pub RefusalRule : ℕ → List ℕ → Refusal → Type 0
+RefusalRule limit s NotHeader = ¬ (HasHeader s)
+RefusalRule limit s NotEnded = HasHeader s × (¬ (EndsInLf s))
+RefusalRule limit s TooMany = HasHeader s × EndsInLf s × (limit < rowCount s)
+RefusalRule limit s (BadRow i) = HasHeader s × EndsInLf s × (rowCount s ≤ limit) × FirstBadRow s i
+
 -- A policy file.
 abbrev pub FileRule : ℕ → List ℕ → Policy → Type 0
 FileRule limit s (rows rs) = HasHeader s × EndsInLf s × (rowCount s ≤ limit) × RowsAre s rs
-FileRule limit s (refused NotHeader) = ¬ (HasHeader s)
-FileRule limit s (refused NotEnded) = HasHeader s × (¬ (EndsInLf s))
-FileRule limit s (refused TooMany) = HasHeader s × EndsInLf s × (limit < rowCount s)
-FileRule limit s (refused (BadRow i)) = HasHeader s × EndsInLf s × (rowCount s ≤ limit) × FirstBadRow s i
-FileRule limit s (refused (Rows n)) = ⊥
-FileRule limit s (refused NoRoom) = ⊥
+FileRule limit s (refused r) = RefusalRule limit s r
 
 module _ (limit : ℕ) (s : List ℕ) where
   header-decides : Decides (HasHeader s) (sameBytes (take 9 s) header)
@@ -146,39 +141,35 @@ module _ (limit : ℕ) (s : List ℕ) where
   unfolding parsePolicy
   file-holds = by header-decides end-decides count-decides
     where
-      lined : HasHeader s → EndsInLf s → rowCount s ≤ limit → (p : Policy) → LinesRule 1 (rowLines s) p → FileRule limit s p
-      lined h e c (rows rs) r = (h, e, c, r)
-      lined h e c (refused (BadRow i)) r = (h, e, c, to-row s i (r .0) (r .1) (r .2))
-      lined h e c (refused (Rows n)) r = absurd r
-      lined h e c (refused NotHeader) r = absurd r
-      lined h e c (refused NotEnded) r = absurd r
-      lined h e c (refused TooMany) r = absurd r
-      lined h e c (refused NoRoom) r = absurd r
+      lined : HasHeader s → EndsInLf s → rowCount s ≤ limit → (l : Lines) → LinesRule 1 (rowLines s) l → FileRule limit s (policyOf l)
+      lined h e c (allRows rs) r = (h, e, c, r)
+      lined h e c (badRow i) r = (h, e, c, to-row s i (r .0) (r .1) (r .2))
 
       by : {a b c : Bool} → Decides (HasHeader s) a → Decides (EndsInLf s) b → Decides (rowCount s ≤ limit) c
-          → FileRule limit s (cond a (cond b (cond c (rowsOf 1 (rowLines s)) (refused TooMany)) (refused NotEnded)) (refused NotHeader))
+          → FileRule limit s (cond a (cond b (cond c (policyOf (rowsOf 1 (rowLines s))) (refused TooMany)) (refused NotEnded)) (refused NotHeader))
       by (failing h) e c = h
       by (holding h) (failing e) c = (h, e)
       by (holding h) (holding e) (failing c) = (h, e, omega arith)
       by (holding h) (holding e) (holding c) = lined h e c (rowsOf 1 (rowLines s)) (lines-hold 1 (rowLines s))
 
   -- A file that 23, 24 and 21 let through: its lines decide.
-  file-lines : HasHeader s → EndsInLf s → rowCount s ≤ limit → parsePolicy limit s ≡ rowsOf 1 (rowLines s)
+  file-lines : HasHeader s → EndsInLf s → rowCount s ≤ limit → parsePolicy limit s ≡ policyOf (rowsOf 1 (rowLines s))
   unfolding parsePolicy
   file-lines h e c = rw (is-true header-decides h, is-true end-decides e, is-true count-decides c)
 
-  file-only : (p : Policy) → FileRule limit s p → parsePolicy limit s ≡ p
+  refusal-only : (r : Refusal) → RefusalRule limit s r → parsePolicy limit s ≡ refused r
   unfolding parsePolicy
-  file-only (rows rs) h = file-lines (h .0) (h .1) (h .2) ∙ all-rows 1 (rowLines s) rs (h .3)
-  file-only (refused NotHeader) h = rw (is-false header-decides h)
-  file-only (refused NotEnded) h = rw (is-true header-decides (h .0), is-false end-decides (h .1))
-  file-only (refused TooMany) h =
+  refusal-only NotHeader h = rw (is-false header-decides h)
+  refusal-only NotEnded h = rw (is-true header-decides (h .0), is-false end-decides (h .1))
+  refusal-only TooMany h =
       rw (is-true header-decides (h .0), is-true end-decides (h .1), is-false count-decides (omega arith))
-  file-only (refused (BadRow i)) h =
+  refusal-only (BadRow i) h =
       let e : 1 + (i - 1) ≡ i = omega (arith, h .3 .from-1) in
-      file-lines (h .0) (h .1) (h .2) ∙ first-bad 1 (rowLines s) (i - 1) (of-row s i (h .3)) ∙ ap (λ (n : ℕ). refused (BadRow n)) e
-  file-only (refused (Rows n)) h = absurd h
-  file-only (refused NoRoom) h = absurd h
+      file-lines (h .0) (h .1) (h .2) ∙ ap policyOf (first-bad 1 (rowLines s) (i - 1) (of-row s i (h .3))) ∙ ap (λ (n : ℕ). refused (BadRow n)) e
+
+  file-only : (p : Policy) → FileRule limit s p → parsePolicy limit s ≡ p
+  file-only (rows rs) h = file-lines (h .0) (h .1) (h .2) ∙ ap policyOf (all-rows 1 (rowLines s) rs (h .3))
+  file-only (refused r) h = refusal-only r h
 
   pub file-ruled : Ruled (FileRule limit s) (parsePolicy limit s)
   file-ruled = record { holds = file-holds; only = file-only }
@@ -188,10 +179,7 @@ abbrev pub NormaliseRule : ℕ → Direction → ℕ → List ℕ → Normalised
 NormaliseRule limit d room s (Printed n) =
     (rs : List PolicyRow) × (parsePolicy limit s ≡ rows rs) × (length (form d rs) ≤ limit) × (length (formFile d rs) ≤ room)
     × (length (formFile d rs) ≡ n)
-NormaliseRule limit d room s NoHeader = FileRule limit s (refused NotHeader)
-NormaliseRule limit d room s NoEnd = FileRule limit s (refused NotEnded)
-NormaliseRule limit d room s OverRows = FileRule limit s (refused TooMany)
-NormaliseRule limit d room s (Bad i) = FileRule limit s (refused (BadRow i))
+NormaliseRule limit d room s (Refused r) = RefusalRule limit s r
 NormaliseRule limit d room s (TooLarge w) =
     (w ≡ d) × (rs : List PolicyRow) × (parsePolicy limit s ≡ rows rs) × (limit < length (form d rs))
 NormaliseRule limit d room s Short =
@@ -212,20 +200,12 @@ module _ (limit : ℕ) (d : Direction) (room : ℕ) (s : List ℕ) where
     where
       by : (p : Policy) → parsePolicy limit s ≡ p → FileRule limit s p → NormaliseRule limit d room s (normalised limit d room p)
       by (rows rs) e h = form-holds rs e
-      by (refused NotHeader) e h = h
-      by (refused NotEnded) e h = h
-      by (refused TooMany) e h = h
-      by (refused (BadRow i)) e h = h
-      by (refused (Rows n)) e h = absurd h
-      by (refused NoRoom) e h = absurd h
+      by (refused r) e h = h
 
   normalise-only : (a : Normalised) → NormaliseRule limit d room s a → normalisedFile limit d room s ≡ a
   normalise-only (Printed n) h =
       rw (h .1, is-true (decides-le (length (form d (h .0))) limit) (h .2), is-true (decides-le (length (formFile d (h .0))) room) (h .3), h .4)
-  normalise-only NoHeader h = rw (file-only limit s (refused NotHeader) h)
-  normalise-only NoEnd h = rw (file-only limit s (refused NotEnded) h)
-  normalise-only OverRows h = rw (file-only limit s (refused TooMany) h)
-  normalise-only (Bad i) h = rw (file-only limit s (refused (BadRow i)) h)
+  normalise-only (Refused r) h = rw (refusal-only limit s r h)
   normalise-only (TooLarge w) h = rw (h .2, is-false (decides-le (length (form d (h .1))) limit) (omega arith), h .0)
   normalise-only Short h =
       rw (h .1, is-true (decides-le (length (form d (h .0))) limit) (h .2), is-false (decides-le (length (formFile d (h .0))) room) (omega arith))
@@ -251,10 +231,7 @@ module _ (limit : ℕ) (d : Direction) (room : ℕ) (s : List ℕ) where
 abbrev pub AcceptRule : ℕ → List ℕ → Acceptance → Type 0
 AcceptRule limit s Accepted =
     (rs : List PolicyRow) × (parsePolicy limit s ≡ rows rs) × (length (form Out rs) ≤ limit) × (length (form In rs) ≤ limit)
-AcceptRule limit s RefusedHeader = FileRule limit s (refused NotHeader)
-AcceptRule limit s RefusedEnd = FileRule limit s (refused NotEnded)
-AcceptRule limit s RefusedCount = FileRule limit s (refused TooMany)
-AcceptRule limit s (RefusedRow i) = FileRule limit s (refused (BadRow i))
+AcceptRule limit s (RefusedFile r) = RefusalRule limit s r
 AcceptRule limit s (RefusedForm Out) = (rs : List PolicyRow) × (parsePolicy limit s ≡ rows rs) × (limit < length (form Out rs))
 AcceptRule limit s (RefusedForm In) =
     (rs : List PolicyRow) × (parsePolicy limit s ≡ rows rs) × (length (form Out rs) ≤ limit) × (limit < length (form In rs))
@@ -274,20 +251,12 @@ module _ (limit : ℕ) (s : List ℕ) where
     where
       by : (p : Policy) → parsePolicy limit s ≡ p → FileRule limit s p → AcceptRule limit s (accepting limit p)
       by (rows rs) e h = forms-hold rs e
-      by (refused NotHeader) e h = h
-      by (refused NotEnded) e h = h
-      by (refused TooMany) e h = h
-      by (refused (BadRow i)) e h = h
-      by (refused (Rows n)) e h = absurd h
-      by (refused NoRoom) e h = absurd h
+      by (refused r) e h = h
 
   accept-only : (a : Acceptance) → AcceptRule limit s a → acceptedFile limit s ≡ a
   accept-only Accepted h =
       rw (h .1, is-true (decides-le (length (form Out (h .0))) limit) (h .2), is-true (decides-le (length (form In (h .0))) limit) (h .3))
-  accept-only RefusedHeader h = rw (file-only limit s (refused NotHeader) h)
-  accept-only RefusedEnd h = rw (file-only limit s (refused NotEnded) h)
-  accept-only RefusedCount h = rw (file-only limit s (refused TooMany) h)
-  accept-only (RefusedRow i) h = rw (file-only limit s (refused (BadRow i)) h)
+  accept-only (RefusedFile r) h = rw (refusal-only limit s r h)
   accept-only (RefusedForm Out) h = rw (h .1, is-false (decides-le (length (form Out (h .0))) limit) (omega arith))
   accept-only (RefusedForm In) h =
       rw (h .1, is-true (decides-le (length (form Out (h .0))) limit) (h .2), is-false (decides-le (length (form In (h .0))) limit) (omega arith))

@@ -16,7 +16,9 @@ use Rattle.packet.specs.declared.Packet.{Packet}
 use Rattle.sad.specs.declared.NewPair.{NewPair}
 use Rattle.policy.specs.Policy.{PolicyRow}
 use Rattle.policy_text.specs.Bytes.{lf, count}
-use Rattle.policy_text.specs.Format.{header, rowOf, linesOf, parsePolicy}
+use Rattle.policy_text.specs.Format.{rowOf, linesOf}
+use Rattle.policy_text.specs.Edition1.{header}
+use Rattle.policy_text.specs.Editions.{parsePolicy}
 use Rattle.normaliser.specs.Normalise.{normalised}
 use Rattle.normaliser.specs.declared.Normalised.{Normalised}
 use Rattle.spd.specs.Spd.{accepting}

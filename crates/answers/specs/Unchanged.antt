@@ -28,14 +28,14 @@ use Rattle.sad.specs.declared.Outcome.the-variants.{Done, NothingToRemove}
 use Rattle.verdicts.specs.Calls.{shows, forGateway, toIpsec, inboundAction, inboundRead, inboundBy}
 use Rattle.gateway.specs.Cached.{cachedSearch, outboundCached, inboundCache, inboundCached}
 use Rattle.verdicts.specs.Verdict.{verdictNumber}
-use Rattle.policy_text.specs.Format.{Policy, refused, rows}
+use Rattle.policy_text.specs.Editions.{Policy, refused, rows}
 use Rattle.normaliser.specs.Normalise.{normalised, bytesAfter, normalisedBytes, normalisedNumber}
 use Rattle.normaliser.specs.declared.Normalised.{Normalised}
-use Rattle.normaliser.specs.declared.Normalised.the-variants.{Printed, NotHeader, NotEnded, TooMany, BadRow, TooLarge, NoRoom}
+use Rattle.normaliser.specs.declared.Normalised.the-variants.{Printed, Refused, TooLarge, NoRoom}
 use Rattle.spd.specs.Spd.{spdWords, emptyCaches, accepting, ifAccepted, spdAfter, cachesAfter, acceptanceNumber}
 use Rattle.spd_words.specs.Words.{addressOf}
 use Rattle.spd.specs.declared.Acceptance.{Acceptance}
-use Rattle.spd.specs.declared.Acceptance.the-variants.{Accepted, NotHeader as NoHeader, NotEnded as NoEnd, TooMany as OverRows, BadRow as Bad, TooLarge as OverForm}
+use Rattle.spd.specs.declared.Acceptance.the-variants.{Accepted, Refused as RefusedFile, TooLarge as OverForm}
 use Rattle.spd.specs.declared.Caches.{Caches}
 use Rattle.answers.specs.Among.{among, list-among}
 use Rattle.answers.specs.Decides.{is-false}
@@ -50,10 +50,7 @@ policy-unchanged capacity limit ws c policy h = (words policy h, by emptyCaches 
   where
     by : {A : Type 0} (new old : A) (a : Acceptance) → 10 ≤ acceptanceNumber a → ifAccepted a new old ≡ old
     by new old Accepted g = absurd (omega arith)
-    by new old NoHeader g = refl
-    by new old NoEnd g = refl
-    by new old OverRows g = refl
-    by new old (Bad i) g = refl
+    by new old (RefusedFile r) g = refl
     by new old (OverForm w) g = refl
 
     words : (p : Policy) → 10 ≤ acceptanceNumber (accepting limit p) → spdAfter capacity limit ws p ≡ ws
@@ -95,10 +92,7 @@ normalise-unchanged limit d room (rows rs) h = by (normalised limit d (length ro
   where
     by : (a : Normalised) → 10 ≤ normalisedNumber a → bytesAfter d rs a room ≡ room
     by (Printed n) g = absurd (omega arith)
-    by NotHeader g = refl
-    by NotEnded g = refl
-    by TooMany g = refl
-    by (BadRow i) g = refl
+    by (Refused r) g = refl
     by (TooLarge w) g = refl
     by NoRoom g = refl
 

@@ -9,7 +9,6 @@ use mathlib.Core.Logic.{_↔_}
 use lib.Dec.{eqb}
 use lib.ListN.{length}
 use borrow.Author.Tests.{ne-eqb, eq-eqb, eqb-true}
-use Rattle.selectors.specs.Range.{ipv4Sizes}
 use Rattle.selectors.specs.declared.Direction.{Direction}
 use Rattle.normal_form.specs.Shape.{normal-form-empty}
 use Rattle.policy.specs.declared.Action.{Action}
@@ -23,14 +22,16 @@ use Rattle.layout.specs.Laid.{sizesOf, roomFor, Outcome}
 use Rattle.layout.specs.declared.Point.{Point}
 use Rattle.layout.specs.declared.Laid.{Laid}
 use Rattle.layout.specs.declared.Laid.the-variants.{Rows, Over, NoRoom}
+use Rattle.policy_text.specs.declared.Edition.{Edition}
+use Rattle.policy_text.specs.Editions.{editionSizes, rules}
 use Rattle.decorrelate.specs.Form.{form}
 use Rattle.decorrelate.specs.FormLaws.{Counted, counted}
 use Rattle.decorrelate.specs.Agree.{Agree}
 
 -- The policy without rows has a normal form without rows.
-pub empty-form : (d : Direction) → form d [] ≡ []
+pub empty-form : (d : Direction) (e : Edition) → form d (rules e []) ≡ []
 unfolding orderedSearch
-empty-form d = normal-form-empty action-≟ Discard ipv4Sizes (orderedSearch d []) .1 (λ vs ok. refl)
+empty-form d e = normal-form-empty action-≟ Discard (editionSizes e) (orderedSearch d []) .1 (λ vs ok. refl)
 
 parted-agreed : (a b : ℕ) → (parted a b ≡ agreed) ↔ (a ≡ b)
 parted-agreed a b = by (ℕ-discrete a b)
@@ -76,12 +77,12 @@ no-rows limit (x ∷ L) Over c = (λ e. absurd (false≢true e), λ e. absurd (c
 no-rows limit L NoRoom c = absurd c
 
 -- What the layout of a difference answers says whether the policies agree.
-pub answers-agree : (limit : ℕ) (highest : Point) (d : Direction) (ps qs : List PolicyRow) (room room′ : List ℕ) (r : Laid)
-    → roomFor limit ≤ length room → Outcome limit (differenceForm (sizesOf highest) d ps qs) room room′ r → sizesOf highest ≡ ipv4Sizes
-    → (noRows r ≡ true) ↔ Agree ipv4Sizes d ps qs
-answers-agree limit highest d ps qs room room′ r enough o sizes =
+pub answers-agree : (limit : ℕ) (sizes : List ℕ) (highest : Point) (d : Direction) (ps qs : List PolicyRow) (room room′ : List ℕ) (r : Laid)
+    → roomFor limit ≤ length room → Outcome limit (differenceForm (sizesOf highest) d ps qs) room room′ r → sizesOf highest ≡ sizes
+    → (noRows r ≡ true) ↔ Agree sizes d ps qs
+answers-agree limit sizes highest d ps qs room room′ r enough o same =
     let D = differenceForm (sizesOf highest) d ps qs in
     let none = no-rows limit D r (counted limit (length D) (length room) r enough (o .answer)) in
-    let e : D ≡ differenceForm ipv4Sizes d ps qs = rw sizes in
-    let agree = difference-none ipv4Sizes d ps qs in
+    let e : D ≡ differenceForm sizes d ps qs = rw same in
+    let agree = difference-none sizes d ps qs in
     (λ h. agree .0 (sym e ∙ none .0 h), λ h. none .1 (e ∙ agree .1 h))

@@ -10,7 +10,7 @@ use lib.Dec.{leb, lit≤}
 use lib.ListN.{length, getD, take, drop, length-append, length-map}
 use lib.Seq.{drop-cons, getD-drop, drop-drop, take-add}
 use borrow.Author.Tests.{leb-true, le-leb, lt-leb}
-use Rattle.selectors.specs.Range.{Range, ipv4Sizes}
+use Rattle.selectors.specs.Range.{Range}
 use Rattle.selectors.specs.Value.{number}
 use Rattle.selectors.specs.Words.{valueAt, rangesAt}
 use Rattle.selectors.specs.WordsLaws.{AllWords}
@@ -21,11 +21,15 @@ use Rattle.normal_form.specs.MapLaws.{mapLeaf}
 use Rattle.policy.specs.declared.Action.{Action}
 use Rattle.policy.specs.declared.Action.the-variants.{Discard}
 use Rattle.policy.specs.Action.{action-≟}
-use Rattle.policy.specs.Policy.{PolicyRow, orderedSearch, bothWays}
+use Rattle.policy.specs.Policy.{orderedSearch, bothWays}
 use Rattle.policy.specs.PolicyLaws.{searching-both-ways}
 use Rattle.policy.specs.WrittenLaws.{row-exact, AllFive, readRow, written-length, written-rows}
 use Rattle.policy.specs.WordsLaws.{word-action}
 use Rattle.policy.specs.Words.{actionWord, rowWords, rowsFrom, policyRows, wordsWith, wordsOfAll}
+use Rattle.policy_text.specs.declared.Edition.{Edition}
+use Rattle.policy_text.specs.declared.Edition.the-variants.{One}
+use Rattle.policy_text.specs.Editions.{editionSizes, Rules, rules}
+use Rattle.policy_text.specs.EditionsLaws.{five-fields}
 use Rattle.layout.specs.Parting.{differenceForm}
 use Rattle.layout.specs.PartingLaws.{actionLeaf, difference-empty}
 use Rattle.layout.specs.Decode.{sizesFrom}
@@ -37,7 +41,7 @@ use Rattle.decorrelate.specs.declared.Form.the-variants.{Rows as FormRow
 use Rattle.decorrelate.specs.Form.{form, formRowWords, formWords, padded, formRoom, formAnswer, formAfter, FormOutcome}
 
 -- The fields of IPv4 by their highest values.
-pub ipv4-highest : (p : Point) → p .words ≡ 0 ∷ 4294967295 ∷ 0 ∷ 4294967295 ∷ 0 ∷ 255 ∷ 0 ∷ 65536 ∷ 0 ∷ 65536 ∷ [] → sizesOf p ≡ ipv4Sizes
+pub ipv4-highest : (p : Point) → p .words ≡ 0 ∷ 4294967295 ∷ 0 ∷ 4294967295 ∷ 0 ∷ 255 ∷ 0 ∷ 65536 ∷ 0 ∷ 65536 ∷ [] → sizesOf p ≡ editionSizes One
 unfolding sizesFrom valueAt number
 ipv4-highest p e = rw e
 
@@ -51,21 +55,21 @@ laid-exact ws at r fit h q =
     let ranges : rangesAt ws (at + 2) ≡ r .ranges = λ i. (q i) .ranges in
     row-exact ws at fit h ∙ λ i. wordsWith (second i) (first i) (ranges i)
 
--- Each row fits the fields of IPv4.
-unfoldable AllFit : List (Row Action) → Type 0
-AllFit L = (r : Row Action) → List·Memᴰ r L → Fits ipv4Sizes (r .ranges)
+-- Each row fits fields of these sizes.
+unfoldable AllFit : List ℕ → List (Row Action) → Type 0
+AllFit sizes L = (r : Row Action) → List·Memᴰ r L → Fits sizes (r .ranges)
 
-rest-fit : (r : Row Action) (L : List (Row Action)) → AllFit (r ∷ L) → AllFit L
+rest-fit : (sizes : List ℕ) (r : Row Action) (L : List (Row Action)) → AllFit sizes (r ∷ L) → AllFit sizes L
 unfolding AllFit
-rest-fit r L f q m = f q (List·Memᴰ·tail m)
+rest-fit sizes r L f q m = f q (List·Memᴰ·tail m)
 
-first-fits : (r : Row Action) (L : List (Row Action)) → AllFit (r ∷ L) → Fits ipv4Sizes (r .ranges)
+first-fits : (sizes : List ℕ) (r : Row Action) (L : List (Row Action)) → AllFit sizes (r ∷ L) → Fits sizes (r .ranges)
 unfolding AllFit
-first-fits r L f = f r (List·Memᴰ·head refl)
+first-fits sizes r L f = f r (List·Memᴰ·head refl)
 
-form-fits : (d : Direction) (rs : List PolicyRow) → AllFit (form d rs)
+form-fits : (d : Direction) (rs : Rules) → AllFit (editionSizes (rs .edition)) (form d rs)
 unfolding AllFit
-form-fits d rs r m = normal-form-fits action-≟ Discard ipv4Sizes (orderedSearch d rs) r m .0
+form-fits d rs r m = normal-form-fits action-≟ Discard (editionSizes (rs .edition)) (orderedSearch d (rs .entries)) r m .0
 
 -- Rows that are laid out from the row i on have their own words there.
 rows-exact : (ws : List ℕ) (i n : ℕ) (L : List (Row Action)) → AllWords ws → (i + n) * rowWords ≤ length ws
@@ -87,50 +91,51 @@ rows-exact ws i (suc n) (r ∷ L) f h e =
 FiveIn : List (Row Action) → Type 0
 FiveIn L = AllFive (Row Action) (λ r. 0) (λ r. actionWord (r .leaf)) (λ r. r .ranges) L
 
-all-five : (L : List (Row Action)) → AllFit L → FiveIn L
+all-five : (e : Edition) (L : List (Row Action)) → AllFit (editionSizes e) L → FiveIn L
 unfolding FiveIn AllFive
-all-five [] f = tt
-all-five (r ∷ L) f = (fits-length ipv4Sizes (r .ranges) (first-fits r L f), all-five L (rest-fit r L f))
+all-five e [] f = tt
+all-five e (r ∷ L) f =
+    (fits-length (editionSizes e) (r .ranges) (first-fits (editionSizes e) r L f) ∙ five-fields e, all-five e L (rest-fit (editionSizes e) r L f))
 
 both-ways : (L : List (Row Action)) → map (readRow (Row Action) (λ r. 0) (λ r. actionWord (r .leaf)) (λ r. r .ranges)) L ≡ map bothWays L
 both-ways [] = refl
 both-ways (r ∷ L) = rw (word-action (r .leaf), both-ways L)
 
-module _ (d : Direction) (rs : List PolicyRow) where
+module _ (d : Direction) (rs : Rules) where
   pub form-words-length : length (formWords (form d rs)) ≡ length (form d rs) * rowWords
   unfolding FiveIn
-  form-words-length = written-length (Row Action) (λ r. 0) (λ r. actionWord (r .leaf)) (λ r. r .ranges) (form d rs) (all-five (form d rs) (form-fits d rs))
+  form-words-length = written-length (Row Action) (λ r. 0) (λ r. actionWord (r .leaf)) (λ r. r .ranges) (form d rs) (all-five (rs .edition) (form d rs) (form-fits d rs))
 
   -- The words of a normal form are read as its rows, each for both directions.
   pub form-words-rows : policyRows (formWords (form d rs)) ≡ map bothWays (form d rs)
   unfolding FiveIn
   form-words-rows =
-      written-rows (Row Action) (λ r. 0) (λ r. actionWord (r .leaf)) (λ r. r .ranges) (form d rs) (all-five (form d rs) (form-fits d rs))
+      written-rows (Row Action) (λ r. 0) (λ r. actionWord (r .leaf)) (λ r. r .ranges) (form d rs) (all-five (rs .edition) (form d rs) (form-fits d rs))
       ∙ both-ways (form d rs)
 
   -- Searching them, in whichever direction is asked, is searching the policy in the direction of the normal form.
-  pub form-search : (asked : Direction) (vs : List ℕ) → Combination ipv4Sizes vs
-      → orderedSearch asked (policyRows (formWords (form d rs))) vs ≡ orderedSearch d rs vs
-  form-search asked vs ok = rw form-words-rows (searching-both-ways ipv4Sizes d rs asked vs ok)
+  pub form-search : (asked : Direction) (vs : List ℕ) → Combination (editionSizes (rs .edition)) vs
+      → orderedSearch asked (policyRows (formWords (form d rs))) vs ≡ orderedSearch d (rs .entries) vs
+  form-search asked vs ok = rw form-words-rows (searching-both-ways (editionSizes (rs .edition)) d (rs .entries) asked vs ok)
 
 no-second : (ws : List ℕ) → policyRows (take 0 ws) ≡ []
 unfolding rowsFrom
 no-second ws = refl
 
 -- What the layout of a policy without a second one leaves is its normal form.
-module _ (limit : ℕ) (d : Direction) (ws : List ℕ) (highest : Point) (room room′ : List ℕ) (r : Laid) where
+module _ (limit : ℕ) (d : Direction) (e : Edition) (ws : List ℕ) (highest : Point) (room room′ : List ℕ) (r : Laid) where
   pub form-outcome : AllWords room′ → length room′ ≡ length room
-      → Outcome limit (differenceForm (sizesOf highest) d (policyRows ws) (policyRows (take 0 ws))) room room′ r → sizesOf highest ≡ ipv4Sizes
-      → FormOutcome limit d (policyRows ws) room room′ r
+      → Outcome limit (differenceForm (sizesOf highest) d (policyRows ws) (policyRows (take 0 ws))) room room′ r → sizesOf highest ≡ editionSizes e
+      → FormOutcome limit d (rules e (policyRows ws)) room room′ r
   form-outcome fit whole o sizes = record { answer = answer; words = words; untouched = o .untouched }
     where
-      rs : List PolicyRow
-      rs = policyRows ws
+      rs : Rules
+      rs = rules e (policyRows ws)
 
-      same : differenceForm (sizesOf highest) d rs (policyRows (take 0 ws)) ≡ map (mapLeaf actionLeaf) (form d rs)
-      same = rw (sizes, no-second ws) (sym (difference-empty ipv4Sizes d rs))
+      same : differenceForm (sizesOf highest) d (policyRows ws) (policyRows (take 0 ws)) ≡ map (mapLeaf actionLeaf) (form d rs)
+      same = rw (sizes, no-second ws) (sym (difference-empty (editionSizes e) d (policyRows ws)))
 
-      count : length (differenceForm (sizesOf highest) d rs (policyRows (take 0 ws))) ≡ length (form d rs)
+      count : length (differenceForm (sizesOf highest) d (policyRows ws) (policyRows (take 0 ws))) ≡ length (form d rs)
       count = ap length same ∙ length-map (form d rs) (mapLeaf actionLeaf)
 
       answer : r ≡ cond (leb (limit * 132) (length room)) (cond (leb (length (form d rs)) limit) (Rows (length (form d rs))) Over) NoRoom
@@ -172,12 +177,12 @@ counted limit count room r enough answer = by (decLe count limit)
         rw e (omega arith)
 
 -- What it says of a normal form.
-unfoldable pub Laying : ℕ → Direction → List PolicyRow → List ℕ → Laid → Type 0
+unfoldable pub Laying : ℕ → Direction → Rules → List ℕ → Laid → Type 0
 Laying limit d rs room′ (Rows n) = (n ≤ limit) × (n ≡ length (form d rs)) × (take (n * rowWords) room′ ≡ formWords (form d rs))
 Laying limit d rs room′ Over = limit < length (form d rs)
 Laying limit d rs room′ NoRoom = ⊥
 
-pub laying : (limit : ℕ) (d : Direction) (rs : List PolicyRow) (room room′ : List ℕ) (r : Laid) → roomFor limit ≤ length room
+pub laying : (limit : ℕ) (d : Direction) (rs : Rules) (room room′ : List ℕ) (r : Laid) → roomFor limit ≤ length room
     → FormOutcome limit d rs room room′ r → Laying limit d rs room′ r
 unfolding Laying Counted
 laying limit d rs room room′ r enough o = by r refl (counted limit (length (form d rs)) (length room) r enough (o .answer))
@@ -188,7 +193,7 @@ laying limit d rs room room′ r enough o = by r refl (counted limit (length (fo
     by NoRoom e c = c
 
 -- What an answer makes of a room for `capacity` rows.
-module _ (capacity limit : ℕ) (d : Direction) (rs : List PolicyRow) (room ws : List ℕ) where
+module _ (capacity limit : ℕ) (d : Direction) (rs : Rules) (room ws : List ℕ) where
   pub form-written : (n : ℕ) → Laying limit d rs room (Rows n)
       → (FormRows n ≡ formAnswer limit d rs) × (padded (capacity * rowWords) (take (n * rowWords) room) ≡ formAfter capacity limit d rs ws)
   unfolding Laying
@@ -201,7 +206,7 @@ module _ (capacity limit : ℕ) (d : Direction) (rs : List PolicyRow) (room ws :
   form-left l = let e = lt-leb (length (form d rs)) limit l in (rw e, rw e)
 
 -- And what that answer says.
-module _ (limit : ℕ) (d : Direction) (rs : List PolicyRow) where
+module _ (limit : ℕ) (d : Direction) (rs : Rules) where
   pub form-within : (n : ℕ) → formAnswer limit d rs ≡ FormRows n
       → (length (form d rs) ≤ limit) × (n ≡ length (form d rs))
       × ((capacity : ℕ) (ws : List ℕ) → formAfter capacity limit d rs ws ≡ formRoom capacity d rs)

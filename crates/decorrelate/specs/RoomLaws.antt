@@ -6,8 +6,8 @@ use mathlib.Core.List.{List, [], _∷_, _++_}
 use lib.ListN.{length, getD, take, replicate, length-append, length-take, length-replicate, List·getD-eq-default}
 use lib.Seq.{take-at, getD-take}
 use Rattle.selectors.specs.declared.Direction.{Direction}
-use Rattle.policy.specs.Policy.{PolicyRow}
 use Rattle.policy.specs.Words.{rowWords}
+use Rattle.policy_text.specs.Editions.{Rules}
 use Rattle.decorrelate.specs.declared.Form.the-variants.{Rows as FormRows}
 use Rattle.decorrelate.specs.Form.{form, formWords, padded, formRoom, formAnswer, formAfter}
 use Rattle.decorrelate.specs.FormLaws.{form-words-length, form-within}
@@ -44,14 +44,14 @@ unfolding padded
 padded-start size ws n e = take-at ws _ n e
 
 -- A room for `capacity` rows with the n rows of a policy's normal form, at most `limit`, and zeros after them.
-pub record Held (capacity limit : ℕ) (d : Direction) (rs : List PolicyRow) (n : ℕ) (ws : List ℕ) : Type 0 where
+pub record Held (capacity limit : ℕ) (d : Direction) (rs : Rules) (n : ℕ) (ws : List ℕ) : Type 0 where
   pub few : n ≤ limit
   pub rows : n ≡ length (form d rs)
   pub words : ws ≡ formRoom capacity d rs
   pub size : length ws ≡ capacity * rowWords
   pub front : take (n * rowWords) ws ≡ formWords (form d rs)
 
-pub held : (capacity limit : ℕ) → limit ≤ capacity → (d : Direction) (rs : List PolicyRow) (n : ℕ) (old ws : List ℕ)
+pub held : (capacity limit : ℕ) → limit ≤ capacity → (d : Direction) (rs : Rules) (n : ℕ) (old ws : List ℕ)
     → formAnswer limit d rs ≡ FormRows n → ws ≡ formAfter capacity limit d rs old → Held capacity limit d rs n ws
 held capacity limit bound d rs n old ws e f =
     let w = form-within limit d rs n e in

@@ -4,8 +4,9 @@ ghost use mathlib.Core.Bool.{true};
 ghost use mathlib.Core.Logic.{_↔_};
 ghost use Prim.Native.Nat.{_≤_};
 ghost use lib.ListN.{length, getD, take};
-ghost use Rattle.selectors.specs.Range.{ipv4Sizes};
 ghost use Rattle.policy.specs.Words.{policyRows, rowLimit, policyWords};
+ghost use Rattle.policy_text.specs.Editions.{editionSizes, rules};
+ghost use Rattle.layout.specs.Laid.{sizesOf};
 ghost use Rattle.decorrelate.specs.Agree.{Agree};
 ghost use Rattle.decorrelate.specs.Form.{padded, formAnswer, formAfter, FormOutcome};
 use layout::Laid;
@@ -14,6 +15,7 @@ use layout::ROOM_WORDS;
 use policy::LIMIT;
 use policy::POLICY_WORDS;
 use policy::ROW_WORDS;
+use policy_text::Edition;
 use selectors::Direction;
 
 // The words of the room that a normal form asks for.
@@ -30,11 +32,21 @@ pub const IPV4: Point = Point {
     words: [0, 4294967295, 0, 4294967295, 0, 255, 0, 65536, 0, 65536],
 };
 
-// Lays out the normal form of a policy of IPv4 for a direction: its words stand at the start of the room, and the rest is scratch.
-fn normal_form(rows: &[u64], direction: Direction, room: &mut [u64]) -> Laid
-    ensures { λ r. ⌜ FormOutcome rowLimit direction (policyRows (now (rows .entry))) (now (room .entry)) (now (room .exit)) r ⌝ }
+// The highest value of each field of an edition.
+fn highest(edition: Edition) -> Point
+    ensures { λ r. ⌜ sizesOf r ≡ editionSizes edition ⌝ }
 {
-    layout::layout(rows, &rows[..0], direction, IPV4, LIMIT, room)
+    match edition {
+        Edition::One => IPV4,
+    }
+}
+
+// Lays out the normal form of a policy of that edition for a direction: its words stand at the start of the room, and the rest is scratch.
+fn normal_form(edition: Edition, rows: &[u64], direction: Direction, room: &mut [u64]) -> Laid
+    ensures { λ r. ⌜ FormOutcome rowLimit direction (rules edition (policyRows (now (rows .entry)))) (now (room .entry)) (now (room .exit)) r ⌝ }
+{
+    let top = highest(edition);
+    layout::layout(rows, &rows[..0], direction, top, LIMIT, room)
 }
 
 // The word at a place of the first `used` words of a list with zeros after them.
@@ -57,14 +69,19 @@ fn fill(words: &mut [u64], from: &[u64], used: usize)
     }
 }
 
-// The normal form of a policy of IPv4 for a direction in a room for the limit's rows: its words, and zeros after them. More rows than the limit
-// leave the room as it was.
-pub fn form_of(rows: &[u64], direction: Direction, form: &mut [u64; POLICY_WORDS]) -> Form
-    ensures { λ r. ⌜ r ≡ formAnswer rowLimit direction (policyRows (now (rows .entry))) ⌝ }
-    ensures { λ _. ⌜ now (form .exit) ≡ formAfter rowLimit rowLimit direction (policyRows (now (rows .entry))) (now (form .entry)) ⌝ }
+// The normal form of a policy of that edition for a direction in a room for the limit's rows: its words, and zeros after them. More rows than
+// the limit leave the room as it was.
+pub fn form_of(
+    edition: Edition,
+    rows: &[u64],
+    direction: Direction,
+    form: &mut [u64; POLICY_WORDS],
+) -> Form
+    ensures { λ r. ⌜ r ≡ formAnswer rowLimit direction (rules edition (policyRows (now (rows .entry)))) ⌝ }
+    ensures { λ _. ⌜ now (form .exit) ≡ formAfter rowLimit rowLimit direction (rules edition (policyRows (now (rows .entry)))) (now (form .entry)) ⌝ }
 {
     let mut room = [0u64; FORM_ROOM];
-    let laid = normal_form(rows, direction, &mut room);
+    let laid = normal_form(edition, rows, direction, &mut room);
     match laid {
         Laid::Rows(n) => {
             fill(form, &room, n * ROW_WORDS);
@@ -75,13 +92,14 @@ pub fn form_of(rows: &[u64], direction: Direction, form: &mut [u64; POLICY_WORDS
     }
 }
 
-// Whether two policies of IPv4 give every combination the same action in a direction: their difference has no rows. The first one ends the
-// layout.
-pub fn same(first: &[u64], second: &[u64], direction: Direction) -> bool
-    ensures { λ r. ⌜ (r ≡ true) ↔ Agree ipv4Sizes direction (policyRows (now (first .entry))) (policyRows (now (second .entry))) ⌝ }
+// Whether two policies of that edition give every combination the same action in a direction: their difference has no rows. The first one ends
+// the layout.
+pub fn same(edition: Edition, first: &[u64], second: &[u64], direction: Direction) -> bool
+    ensures { λ r. ⌜ (r ≡ true) ↔ Agree (editionSizes edition) direction (policyRows (now (first .entry))) (policyRows (now (second .entry))) ⌝ }
 {
     let mut room = [0u64; ROOM_WORDS];
-    let laid = layout::layout(first, second, direction, IPV4, 0, &mut room);
+    let top = highest(edition);
+    let laid = layout::layout(first, second, direction, top, 0, &mut room);
     match laid {
         Laid::Rows(n) => n == 0,
         Laid::Over => false,

@@ -1,4 +1,5 @@
 // The line of an answer: document 01's number, and what the answer carries.
+use policy_text::Refusal;
 use sad::Outcome;
 use selectors::Direction;
 use spd::Acceptance;
@@ -48,11 +49,18 @@ pub fn show_outcome(outcome: Outcome) {
 pub fn show_acceptance(acceptance: Acceptance) {
     show_number(answer_numbers::acceptance_number(acceptance));
     match acceptance {
-        Acceptance::BadRow(row) => show_carried(row as u64),
+        Acceptance::Refused(refusal) => show_refusal(refusal),
         Acceptance::TooLarge(direction) => show_direction(direction),
         _ => {}
     }
     say(b"");
+}
+
+fn show_refusal(refusal: Refusal) {
+    match refusal {
+        Refusal::BadRow(row) => show_carried(row as u64),
+        _ => {}
+    }
 }
 
 fn show_direction(direction: Direction) {

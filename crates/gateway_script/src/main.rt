@@ -20,7 +20,7 @@ mod fields;
 ghost use mathlib.Core.Path.{_≡_};
 ghost use Prim.Native.Nat.{_≤_, _<_};
 ghost use Rattle.policy.specs.Words.{rowLimit};
-ghost use Rattle.policy_text.specs.Format.{parsePolicy};
+ghost use Rattle.policy_text.specs.Editions.{parsePolicy};
 ghost use Rattle.sad.specs.Pairs.{pairs};
 ghost use Rattle.spd.specs.Spd.{spdAfter, cachesAfter};
 ghost use Rattle.spd_words.specs.Words.{rowsOf, addressOf};

@@ -2,7 +2,7 @@
 use Prim.Native.Nat.{ℕ, _+_, _*_, _≤_, _<_}
 use native.Mathlib.Omega.{arith}
 use native.Mathlib.Decide.{decLe}
-use mathlib.Core.Path.{_≡_, refl, sym, _∙_}
+use mathlib.Core.Path.{_≡_, refl}
 use mathlib.Core.List.{List}
 use lib.ListN.{length, take, drop, length-map, length-append}
 use lib.Seq.{take-at}
@@ -10,17 +10,14 @@ use borrow.Author.Tests.{le-leb, lt-leb}
 use Rattle.selectors.specs.declared.Direction.{Direction}
 use Rattle.policy.specs.Words.{rowLimit}
 use Rattle.policy.specs.Policy.{PolicyRow, asPolicy}
-use Rattle.policy_text.specs.declared.Parsed.{Parsed}
-use Rattle.policy_text.specs.declared.Parsed.the-variants.{Rows, NotHeader, NotEnded, TooMany, BadRow, NoRoom}
-use Rattle.policy_text.specs.Format.{Policy, refused, rows, parsePolicy}
+use Rattle.policy_text.specs.Editions.{Policy, refused, rows, parsePolicy}
 use Rattle.policy_round_trip.specs.Accepted.{parse-printable}
 use Rattle.policy_round_trip.specs.Files.{policy-length}
 use Rattle.policy_round_trip.specs.NormalForms.{normal-form-printable}
 use Rattle.normaliser.specs.declared.Normalised.{Normalised}
-use Rattle.normaliser.specs.declared.Normalised.the-variants.{Printed, NotHeader as NoHeader, NotEnded as NoEnd, TooMany as OverRows, BadRow as Bad, TooLarge, NoRoom as Short}
+use Rattle.normaliser.specs.declared.Normalised.the-variants.{Printed, Refused, TooLarge, NoRoom}
 use Rattle.decorrelate.specs.Form.{form}
-use Rattle.normaliser.specs.Normalise.{formFile, refusal, normalised, normalisedBytes}
-use Rattle.policy_parse.specs.Taken.{taken, never-short}
+use Rattle.normaliser.specs.Normalise.{formFile, normalised, normalisedBytes}
 
 -- The bytes of the longest normal-form file: its header, and at most 120 for each row (`policy-length`).
 abbrev pub formBytes : ℕ
@@ -30,22 +27,19 @@ formBytes = 9 + rowLimit * 120
 -- way alone tries 22 for that way only; 31 comes last', and here never comes.
 unfoldable pub PolicyAnswered : Direction → List PolicyRow → List ℕ → Normalised → Type 0
 PolicyAnswered d rs room (Printed n) = (length (form d rs) ≤ rowLimit) × (n ≤ length room) × (take n room ≡ formFile d rs)
-PolicyAnswered d rs room NoHeader = ⊥
-PolicyAnswered d rs room NoEnd = ⊥
-PolicyAnswered d rs room OverRows = ⊥
-PolicyAnswered d rs room (Bad i) = ⊥
+PolicyAnswered d rs room (Refused r) = ⊥
 PolicyAnswered d rs room (TooLarge w) = (rowLimit < length (form d rs)) × (w ≡ d)
-PolicyAnswered d rs room Short = ⊥
+PolicyAnswered d rs room NoRoom = ⊥
 
 -- And a file: one that is no policy has its own refusal.
 unfoldable pub Answered : Direction → Policy → List ℕ → Normalised → Type 0
-Answered d (rows rs) room r = PolicyAnswered d rs room r
-Answered d (refused p) room r = (r ≡ refusal p) × (r ≡ Short → ⊥)
+Answered d (rows rs) room a = PolicyAnswered d rs room a
+Answered d (refused r) room a = a ≡ Refused r
 
 -- A text that is the normal-form file of a file and direction.
 unfoldable pub IsFormFile : Direction → Policy → List ℕ → Type 0
 IsFormFile d (rows rs) text = (length (form d rs) ≤ rowLimit) × (text ≡ formFile d rs)
-IsFormFile d (refused p) text = ⊥
+IsFormFile d (refused r) text = ⊥
 
 module _ (d : Direction) (s room : List ℕ) (enough : formBytes ≤ length room) where
   answered-rows : (rs : List PolicyRow) → parsePolicy rowLimit s ≡ rows rs
@@ -62,43 +56,21 @@ module _ (d : Direction) (s room : List ℕ) (enough : formBytes ≤ length room
           (h, simp length-append (omega arith), take-at (formFile d rs) (drop (length (formFile d rs)) room) (length (formFile d rs)) refl)
       by (no h) = let g : rowLimit < length (form d rs) = omega arith in rw (lt-leb (length (form d rs)) rowLimit g) (g, refl)
 
-  answered-refused : (p : Parsed) → parsePolicy rowLimit s ≡ refused p → Answered d (refused p) room (refusal p)
-  unfolding Answered
-  answered-refused p e = (refl, by p e)
-    where
-      rows≢refused : {rs : List PolicyRow} {q : Parsed} → rows rs ≡ refused q → ⊥
-      rows≢refused f = let z : _≡_ {A = ℕ} 0 1 = cc in omega arith
-
-      by : (q : Parsed) → parsePolicy rowLimit s ≡ refused q → refusal q ≡ Short → ⊥
-      by (Rows n) f g = rows≢refused (sym (taken rowLimit s room (omega arith) n (rw f) .is) ∙ f)
-      by NotHeader f g = let z : _≡_ {A = ℕ} 0 1 = cc in omega arith
-      by NotEnded f g = let z : _≡_ {A = ℕ} 0 1 = cc in omega arith
-      by TooMany f g = let z : _≡_ {A = ℕ} 0 1 = cc in omega arith
-      by (BadRow i) f g = let z : _≡_ {A = ℕ} 0 1 = cc in omega arith
-      by NoRoom f g = never-short rowLimit s (length room) (omega arith) (rw f)
-
   pub answered : Answered d (parsePolicy rowLimit s) (normalisedBytes rowLimit d room (parsePolicy rowLimit s)) (normalised rowLimit d (length room) (parsePolicy rowLimit s))
+  unfolding Answered
   answered = by (parsePolicy rowLimit s) refl
     where
       by : (p : Policy) → parsePolicy rowLimit s ≡ p → Answered d p (normalisedBytes rowLimit d room p) (normalised rowLimit d (length room) p)
-      by (refused p) e = answered-refused p e
+      by (refused r) e = refl
       by (rows rs) e = answered-rows rs e
-
-refusal≢printed : (p : Parsed) (n : ℕ) → Printed n ≡ refusal p → ⊥
-refusal≢printed (Rows m) n e = let z : _≡_ {A = ℕ} 0 1 = cc in omega arith
-refusal≢printed NotHeader n e = let z : _≡_ {A = ℕ} 0 1 = cc in omega arith
-refusal≢printed NotEnded n e = let z : _≡_ {A = ℕ} 0 1 = cc in omega arith
-refusal≢printed TooMany n e = let z : _≡_ {A = ℕ} 0 1 = cc in omega arith
-refusal≢printed (BadRow i) n e = let z : _≡_ {A = ℕ} 0 1 = cc in omega arith
-refusal≢printed NoRoom n e = let z : _≡_ {A = ℕ} 0 1 = cc in omega arith
 
 -- What is printed lies in the room, and is the normal-form file.
 pub printed-within : (d : Direction) (p : Policy) (room : List ℕ) (n : ℕ) → Answered d p room (Printed n) → n ≤ length room
 unfolding Answered PolicyAnswered
 printed-within d (rows rs) room n a = a .1
-printed-within d (refused p) room n a = absurd (refusal≢printed p n (a .0))
+printed-within d (refused r) room n a = let z : _≡_ {A = ℕ} 0 1 = cc in absurd (omega arith)
 
 pub printed-file : (d : Direction) (p : Policy) (room : List ℕ) (n : ℕ) → Answered d p room (Printed n) → IsFormFile d p (take n room)
 unfolding Answered PolicyAnswered IsFormFile
 printed-file d (rows rs) room n a = (a .0, a .2)
-printed-file d (refused p) room n a = absurd (refusal≢printed p n (a .0))
+printed-file d (refused r) room n a = let z : _≡_ {A = ℕ} 0 1 = cc in absurd (omega arith)

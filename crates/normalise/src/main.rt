@@ -9,7 +9,7 @@ ghost use mathlib.Core.Path.{_≡_};
 ghost use lib.ListN.{length};
 ghost use Rattle.policy.specs.Words.{rowLimit};
 ghost use Rattle.normaliser.specs.Normalise.{normalised, normalisedNumber};
-ghost use Rattle.policy_text.specs.Format.{parsePolicy};
+ghost use Rattle.policy_text.specs.Editions.{parsePolicy};
 ghost use Rattle.normalise.specs.Command.{directionAsked, Within};
 ghost use Rattle.normalise.specs.Room.{formBytes, Answered, IsFormFile};
 use libc::STDERR_FILENO;
@@ -17,6 +17,7 @@ use libc::STDIN_FILENO;
 use libc::STDOUT_FILENO;
 use normaliser::Normalised;
 use policy::LIMIT;
+use policy_text::Refusal;
 use policy_text::same;
 use selectors::Direction;
 
@@ -168,12 +169,18 @@ fn refuse(answer: Normalised, policy: &[u8], direction: Direction)
 fn say_meaning(answer: Normalised) {
     match answer {
         Normalised::Printed(count) => say_count(b"done, bytes ", count),
-        Normalised::NotHeader => say(b"first nine bytes aren't the header line"),
-        Normalised::NotEnded => say(b"last byte isn't LF"),
-        Normalised::TooMany => say(b"more than 256 rows"),
-        Normalised::BadRow(row) => say_count(b"bad row ", row),
+        Normalised::Refused(refusal) => say_refusal(refusal),
         Normalised::TooLarge(direction) => say_too_large(direction),
         Normalised::NoRoom => say(b"lent room shorter than the printed file"),
+    }
+}
+
+fn say_refusal(refusal: Refusal) {
+    match refusal {
+        Refusal::NotHeader => say(b"first nine bytes aren't the header line"),
+        Refusal::NotEnded => say(b"last byte isn't LF"),
+        Refusal::TooMany => say(b"more than 256 rows"),
+        Refusal::BadRow(row) => say_count(b"bad row ", row),
     }
 }
 

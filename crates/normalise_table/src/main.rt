@@ -2,6 +2,7 @@
 ghost use Prim.Native.Nat.{_≤_};
 ghost use lib.ListN.{length};
 use normaliser::Normalised;
+use policy_text::Refusal;
 use selectors::Direction;
 
 fn main() {
@@ -46,12 +47,18 @@ fn show(file: &[u8], direction: Direction) {
     let answer = normaliser::normalise(file, direction, &mut out);
     match answer {
         Normalised::Printed(count) => show_file(&out, count),
-        Normalised::NotHeader => say(b"23, not the header line"),
-        Normalised::NotEnded => say(b"24, the last byte is not LF"),
-        Normalised::TooMany => say(b"21, too many rows"),
-        Normalised::BadRow(row) => say_row(row),
+        Normalised::Refused(refusal) => show_refusal(refusal),
         Normalised::TooLarge(_) => say(b"22, the normal form has too many rows"),
         Normalised::NoRoom => say(b"31, no room"),
+    }
+}
+
+fn show_refusal(refusal: Refusal) {
+    match refusal {
+        Refusal::NotHeader => say(b"23, not the header line"),
+        Refusal::NotEnded => say(b"24, the last byte is not LF"),
+        Refusal::TooMany => say(b"21, too many rows"),
+        Refusal::BadRow(row) => say_row(row),
     }
 }
 

@@ -7,8 +7,9 @@ use lib.Dec.{leb}
 use lib.ListN.{length}
 use borrow.Author.Tests.{le-leb, lt-leb}
 use Rattle.selectors.specs.declared.Direction.{Direction}
-use Rattle.policy.specs.Policy.{PolicyRow, bothWays}
+use Rattle.policy.specs.Policy.{bothWays}
 use Rattle.policy.specs.Words.{policyRows}
+use Rattle.policy_text.specs.Editions.{formatOf, Rules, rows}
 use Rattle.policy_text.specs.Print.{policyText, toward}
 use Rattle.policy_print.specs.Printing.{printed, printedIn, printedRoom}
 use Rattle.policy_print.specs.declared.Printed.{Printed}
@@ -18,18 +19,17 @@ use Rattle.normaliser.specs.declared.Normalised.the-variants.{Printed as
 use Rattle.decorrelate.specs.Form.{form, formWords}
 use Rattle.decorrelate.specs.FormLaws.{form-words-rows}
 use Rattle.normaliser.specs.Normalise.{formFile, normalised, normalisedBytes}
-use Rattle.policy_text.specs.Format.{rows}
 
 -- The words of a normal form are printed as the normal-form file.
-pub printed-form : (d : Direction) (rs : List PolicyRow) (ws : List ℕ) → ws ≡ formWords (form d rs) → printed d (policyRows ws) ≡ formFile d rs
-printed-form d rs ws e = rw (e, form-words-rows d rs) (ap policyText (map-map (toward d) bothWays (form d rs)))
+pub printed-form : (d : Direction) (rs : Rules) (ws : List ℕ) → ws ≡ formWords (form d rs) → printed (rs .edition) d (policyRows ws) ≡ formFile d rs
+printed-form d rs ws e = rw (e, form-words-rows d rs) (ap (policyText (formatOf (rs .edition))) (map-map (toward d) bothWays (form d rs)))
 
 -- The printer's answer as the call's.
 abbrev pub answered : Printed → Normalised
 answered (Bytes n) = Done n
 answered NoBytes = Short
 
-module _ (limit : ℕ) (d : Direction) (rs : List PolicyRow) (room : List ℕ) where
+module _ (limit : ℕ) (d : Direction) (rs : Rules) (room : List ℕ) where
   pub too-large : limit < length (form d rs)
       → (TooLarge d ≡ normalised limit d (length room) (rows rs)) × (room ≡ normalisedBytes limit d room (rows rs))
   too-large h = (rw (lt-leb (length (form d rs)) limit h), rw (lt-leb (length (form d rs)) limit h))

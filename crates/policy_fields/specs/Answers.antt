@@ -17,7 +17,8 @@ use Rattle.policy_text.specs.declared.Number.{Number}
 use Rattle.policy_text.specs.declared.Number.the-variants.{Is, Bad}
 use Rattle.policy_fields.specs.declared.RowText.{RowText}
 use Rattle.policy_fields.specs.declared.RowText.the-variants.{Row as RowIs, Bad as RowBad}
-use Rattle.policy_text.specs.Format.{addressField, protocolField, portField, directionField, actionField, field, fieldsFrom}
+use Rattle.policy_text.specs.Format.{directionField, field, fieldsFrom}
+use Rattle.policy_text.specs.Edition1.{addressField, protocolField, portField, actionField}
 
 -- A number of 64 bits as a value.
 abbrev pub small : ℕ → Value

@@ -1,7 +1,8 @@
 // The fields of a row, and the row.
 ghost use mathlib.Core.Path.{_≡_};
 ghost use Rattle.selectors.specs.Range.{addressSize, protocolSize, portSize};
-ghost use Rattle.policy_text.specs.Format.{address, isMask, maskedRange, spanned, addressField, protocolField, portEnd, portField, directionField, actionField, protect};
+ghost use Rattle.policy_text.specs.Format.{spanned, directionField};
+ghost use Rattle.policy_text.specs.Edition1.{address, isMask, maskedRange, addressField, protocolField, portEnd, portField, actionField, protect};
 ghost use Rattle.policy_fields.specs.Answers.{small, addressFor, protocolFor, portFor, directionFor, actionFor, entryFor, entryOf};
 ghost use Rattle.policy_text.specs.FormatLaws.{AtMost};
 use policy::Row;

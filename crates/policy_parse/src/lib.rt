@@ -4,15 +4,22 @@ ghost use Prim.Native.Nat.{_-_, _*_, _≤_};
 ghost use lib.ListN.{length, getD, take, drop};
 ghost use lib.Seq.{sets};
 ghost use Rattle.policy_text.specs.Bytes.{lf, before, after};
-ghost use Rattle.policy_text.specs.Format.{linesOf, rowsOf, parsePolicy};
-ghost use Rattle.policy.specs.Words.{rowWords};
+ghost use Rattle.policy.specs.Words.{rowWords, rowLimit};
+ghost use Rattle.policy_text.specs.Format.{linesOf, rowsOf};
+ghost use Rattle.policy_text.specs.Edition1.{edition1};
+ghost use Rattle.policy_text.specs.Editions.{parsePolicy};
 ghost use Rattle.policy_fields.specs.Answers.{textWords};
-ghost use Rattle.policy_parse.specs.Parsing.{badOf, written, parsedIn, parsedRoom};
+ghost use Rattle.policy_parse.specs.Parsing.{badOf, written, fileOf, fileRoom, parsedIn, parsedRoom};
+use policy::LIMIT;
+use policy::POLICY_WORDS;
 use policy::ROW_WORDS;
 use policy::put_row;
 use policy_fields::RowText;
 use policy_fields::row;
+use policy_text::Edition;
+use policy_text::File;
 use policy_text::Parsed;
+use policy_text::Refusal;
 use policy_text::before;
 use policy_text::count;
 use policy_text::find;
@@ -40,7 +47,7 @@ fn next_line(s: &[u8], at: usize) -> usize
 
 // The number of the first bad row of that many, and 0 if there is none.
 fn first_bad(body: &[u8], count: usize) -> usize
-    ensures { λ r. ⌜ r ≡ badOf (rowsOf 1 (linesOf count (now (body .entry)))) ⌝ }
+    ensures { λ r. ⌜ r ≡ badOf (rowsOf edition1 1 (linesOf count (now (body .entry)))) ⌝ }
 {
     let mut at: usize = 0;
     let mut i: usize = 0;
@@ -106,29 +113,57 @@ fn last(s: &[u8]) -> u8
     s[s.len() - 1]
 }
 
-// The rows of a policy file as words, at the start of the lent room; on any refusal the room is left alone.
-pub fn parse(bytes: &[u8], limit: usize, rows: &mut [u64]) -> Parsed
-    ensures { λ r. ⌜ r ≡ parsedIn (length (now (rows .entry))) (parsePolicy limit (now (bytes .entry))) ⌝ }
-    ensures { λ _. ⌜ now (rows .exit) ≡ parsedRoom (now (rows .entry)) (parsePolicy limit (now (bytes .entry))) ⌝ }
+// What a file is: its refusal, by the tests in their order, or its edition and the count of its rows.
+fn examine(bytes: &[u8], limit: usize) -> File
+    ensures { λ r. ⌜ r ≡ fileOf (parsePolicy limit (now (bytes .entry))) ⌝ }
 {
     if !same(first_nine(bytes), b"policy\t1\n") {
-        return Parsed::NotHeader;
+        return File::Refused(Refusal::NotHeader);
     }
     if last(bytes) != b'\n' {
-        return Parsed::NotEnded;
+        return File::Refused(Refusal::NotEnded);
     }
     let body = after_nine(bytes);
     let n = count(body, b'\n');
     if limit < n {
-        return Parsed::TooMany;
+        return File::Refused(Refusal::TooMany);
     }
     let bad = first_bad(body, n);
     if bad != 0 {
-        return Parsed::BadRow(bad);
+        return File::Refused(Refusal::BadRow(bad));
     }
-    if rows.len() / ROW_WORDS < n {
-        return Parsed::NoRoom;
+    File::Rows(Edition::One, n)
+}
+
+// The rows of a policy file as words, at the start of the lent room; on any refusal, and where the rows do not fit, the room is left alone.
+pub fn parse(bytes: &[u8], limit: usize, rows: &mut [u64]) -> Parsed
+    ensures { λ r. ⌜ r ≡ parsedIn (length (now (rows .entry))) (parsePolicy limit (now (bytes .entry))) ⌝ }
+    ensures { λ _. ⌜ now (rows .exit) ≡ parsedRoom (now (rows .entry)) (parsePolicy limit (now (bytes .entry))) ⌝ }
+{
+    let file = examine(bytes, limit);
+    match file {
+        File::Rows(edition, n) => {
+            if rows.len() / ROW_WORDS < n {
+                return Parsed::NoRoom;
+            }
+            put_rows(after_nine(bytes), n, rows);
+            Parsed::Rows(edition, n)
+        }
+        File::Refused(refusal) => Parsed::Refused(refusal),
     }
-    put_rows(body, n, rows);
-    Parsed::Rows(n)
+}
+
+// The same into a room for the limit's rows, which no policy is too long for.
+pub fn parse_policy(bytes: &[u8], rows: &mut [u64; POLICY_WORDS]) -> File
+    ensures { λ r. ⌜ r ≡ fileOf (parsePolicy rowLimit (now (bytes .entry))) ⌝ }
+    ensures { λ _. ⌜ now (rows .exit) ≡ fileRoom (now (rows .entry)) (parsePolicy rowLimit (now (bytes .entry))) ⌝ }
+{
+    let file = examine(bytes, LIMIT);
+    match file {
+        File::Rows(edition, n) => {
+            put_rows(after_nine(bytes), n, rows);
+            File::Rows(edition, n)
+        }
+        File::Refused(refusal) => File::Refused(refusal),
+    }
 }

@@ -8,6 +8,8 @@ use lib.ListN.{length, drop}
 use lib.Seq.{sets}
 use Rattle.selectors.specs.declared.Direction.{Direction}
 use Rattle.policy.specs.Policy.{PolicyRow}
+use Rattle.policy_text.specs.declared.Edition.{Edition}
+use Rattle.policy_text.specs.Editions.{formatOf}
 use Rattle.policy_text.specs.Print.{policyText, toward}
 use Rattle.policy_print.specs.declared.Printed.{Printed}
 use Rattle.policy_print.specs.declared.Printed.the-variants.{Bytes, NoRoom}
@@ -17,9 +19,9 @@ pub record Put (room : List ℕ) (at : ℕ) (text : List ℕ) (room′ : List �
   pub place : next ≡ at + length text
   pub bytes : room′ ≡ sets room at text
 
--- The file of rows as rows of one direction.
-abbrev pub printed : Direction → List PolicyRow → List ℕ
-printed d rs = policyText (map (toward d) rs)
+-- The file of an edition's rows as rows of one direction.
+abbrev pub printed : Edition → Direction → List PolicyRow → List ℕ
+printed e d rs = policyText (formatOf e) (map (toward d) rs)
 
 -- What `print` answers with room for that many bytes ('lent room shorter than the printed file' is 31), and what it leaves of the room: 'a print
 -- that succeeds writes its bytes at the start and leaves the rest', a refusal leaves all.

@@ -22,9 +22,11 @@ use Rattle.policy.specs.Policy.{PolicyRow}
 use Rattle.policy.specs.Words.{rowWords, actionOf, rowAt, rowsFrom}
 use Rattle.policy_text.specs.Bytes.{dash}
 use Rattle.policy_text.specs.BytesLaws.{left-more, left-none}
-use Rattle.policy_text.specs.Format.{any, opaqueWord}
+use Rattle.policy_text.specs.Decimals.{digitsOf, decimalText}
+use Rattle.policy_text.specs.Format.{any}
+use Rattle.policy_text.specs.Edition1.{opaqueWord, lower, dotted, addressText, protocolText, portText, actionText, edition1}
+use Rattle.policy_text.specs.Print.{rangeText, rangesText, directionText, rowText, lineText, rowsText, toward}
 use Rattle.selectors.specs.StoresLaws.{sets-more}
-use Rattle.policy_text.specs.Print.{digitsOf, decimalText, lower, dotted, addressText, protocolText, portText, rangeText, rangesText, directionText, actionText, rowText, lineText, rowsText, toward}
 use Rattle.policy_text.specs.PrintLaws.{action-most, ranges-most}
 use Rattle.policy_print.specs.declared.Printed.the-variants.{Bytes, NoRoom}
 use Rattle.policy_print.specs.Printing.{Put, printedIn, printedRoom}
@@ -120,12 +122,12 @@ put-rest {r} {r′} {a} {n} {xs} ys p = rw (p .bytes, p .place) (sym (sets-more 
 -- The text of the rows that are left: that of the first one, and of the rows after it.
 module _ (d : Direction) (ws : List ℕ) (i count : ℕ) where
   pub rows-more : i < count
-      → rowsText (map (toward d) (rowsFrom ws i (count - i)))
-      ≡ lineText (toward d (rowAt ws (i * rowWords))) ++ rowsText (map (toward d) (rowsFrom ws (i + 1) (count - (i + 1))))
+      → rowsText edition1 (map (toward d) (rowsFrom ws i (count - i)))
+      ≡ lineText edition1 (toward d (rowAt ws (i * rowWords))) ++ rowsText edition1 (map (toward d) (rowsFrom ws (i + 1) (count - (i + 1))))
   unfolding rowsText rowsFrom
   rows-more h = let e : count - i ≡ suc (count - (i + 1)) = omega arith in rw (e, add-one i)
 
-  pub rows-none : count ≤ i → rowsText (map (toward d) (rowsFrom ws i (count - i))) ≡ []
+  pub rows-none : count ≤ i → rowsText edition1 (map (toward d) (rowsFrom ws i (count - i))) ≡ []
   unfolding rowsText rowsFrom
   rows-none h = let e : count - i ≡ zero = omega arith in rw e
 
@@ -134,7 +136,7 @@ direction-most : (d : Direction) → length (directionText (Only d)) ≤ 3
 direction-most Out = omega arith
 direction-most In = omega arith
 
-pub line-most : (d : Direction) (ws : List ℕ) (at : ℕ) → length (lineText (toward d (rowAt ws at))) ≤ 291
+pub line-most : (d : Direction) (ws : List ℕ) (at : ℕ) → length (lineText edition1 (toward d (rowAt ws at))) ≤ 291
 unfolding rowText rowAt
 line-most d ws at =
     simp length-append
@@ -145,7 +147,7 @@ line-most d ws at =
       simp length-append at (ranges-most (rangeAt ws (at + 2)) (rangeAt ws (at + 2 + 4)) (rangeAt ws (at + 2 + 8)) (rangeAt ws (at + 2 + 12)) (rangeAt ws (at + 2 + 16))),
     ))
 
-pub rows-most : (d : Direction) (ws : List ℕ) (i n : ℕ) → length (rowsText (map (toward d) (rowsFrom ws i n))) ≤ n * 291
+pub rows-most : (d : Direction) (ws : List ℕ) (i n : ℕ) → length (rowsText edition1 (map (toward d) (rowsFrom ws i n))) ≤ n * 291
 unfolding rowsText rowsFrom
 rows-most d ws i zero = omega arith
 rows-most d ws i (suc n) =
@@ -153,7 +155,7 @@ rows-most d ws i (suc n) =
 
 -- A row's line, by its parts.
 pub line-length : (r : PolicyRow)
-    → length (lineText r) ≡ length (directionText (r .direction)) + 1 + length (actionText (r .action)) + length (rangesText (r .ranges)) + 1
+    → length (lineText edition1 r) ≡ length (directionText (r .direction)) + 1 + length (actionText (r .action)) + length (rangesText edition1 (r .ranges)) + 1
 unfolding rowText
 line-length r = simp length-append (omega arith)
 

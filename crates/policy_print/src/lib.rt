@@ -9,12 +9,15 @@ ghost use Rattle.selectors.specs.Range.{addressSize, protocolSize, portSize};
 ghost use Rattle.selectors.specs.Words.{rangeWords, rangesWords, rangeAt, rangesAt};
 ghost use Rattle.policy.specs.Words.{actionOf, rowWords, rowAt, policyRows};
 ghost use Rattle.policy_text.specs.Bytes.{tab};
-ghost use Rattle.policy_text.specs.Print.{digitsOf, decimalText, dotted, addressText, protocolText, portText, rangeText, rangesText, directionText, actionText, lineText, rowsText, toward};
+ghost use Rattle.policy_text.specs.Decimals.{digitsOf, decimalText};
+ghost use Rattle.policy_text.specs.Edition1.{dotted, addressText, protocolText, portText, actionText, edition1};
+ghost use Rattle.policy_text.specs.Print.{rangeText, rangesText, directionText, lineText, rowsText, toward};
 ghost use Rattle.policy_print.specs.Printing.{Put, printed, printedIn, printedRoom};
 use policy::Action;
 use policy::ROW_WORDS;
 use policy::RowDirection;
 use policy::action_of;
+use policy_text::Edition;
 use selectors::ABSENT;
 use selectors::AddressRange;
 use selectors::Direction;
@@ -190,8 +193,8 @@ fn put_port_field(out: &mut [u8], at: usize, rows: &[u64], from: usize) -> usize
 
 // The five ranges from a word on, each after a tab.
 fn put_fields(out: &mut [u8], at: usize, rows: &[u64], from: usize) -> usize
-    requires { ⌜ (from + rangesWords ≤ length (now rows)) × (at + length (rangesText (rangesAt (now rows) from)) < 2 ^ 64) ⌝ }
-    ensures { λ r. ⌜ Put (now (out .entry)) at (rangesText (rangesAt (now (rows .entry)) from)) (now (out .exit)) r ⌝ }
+    requires { ⌜ (from + rangesWords ≤ length (now rows)) × (at + length (rangesText edition1 (rangesAt (now rows) from)) < 2 ^ 64) ⌝ }
+    ensures { λ r. ⌜ Put (now (out .entry)) at (rangesText edition1 (rangesAt (now (rows .entry)) from)) (now (out .exit)) r ⌝ }
 {
     let a = put_address_field(out, at, rows, from);
     let b = put_address_field(out, a, rows, from + 4);
@@ -227,8 +230,8 @@ fn put_action(out: &mut [u8], at: usize, word: u64) -> usize
 
 // The row at a word, printed as a row of that direction, with its LF.
 fn put_row(out: &mut [u8], at: usize, rows: &[u64], from: usize, direction: Direction) -> usize
-    requires { ⌜ (from + rowWords ≤ length (now rows)) × (at + length (lineText (toward direction (rowAt (now rows) from))) < 2 ^ 64) ⌝ }
-    ensures { λ r. ⌜ Put (now (out .entry)) at (lineText (toward direction (rowAt (now (rows .entry)) from))) (now (out .exit)) r ⌝ }
+    requires { ⌜ (from + rowWords ≤ length (now rows)) × (at + length (lineText edition1 (toward direction (rowAt (now rows) from))) < 2 ^ 64) ⌝ }
+    ensures { λ r. ⌜ Put (now (out .entry)) at (lineText edition1 (toward direction (rowAt (now (rows .entry)) from))) (now (out .exit)) r ⌝ }
 {
     let a = put_direction(out, at, direction);
     let b = put(out, a, b'\t');
@@ -238,8 +241,8 @@ fn put_row(out: &mut [u8], at: usize, rows: &[u64], from: usize, direction: Dire
 }
 
 fn put_rows(out: &mut [u8], at: usize, rows: &[u64], direction: Direction) -> usize
-    requires { ⌜ at + length (rowsText (map (toward direction) (policyRows (now rows)))) < 2 ^ 64 ⌝ }
-    ensures { λ r. ⌜ Put (now (out .entry)) at (rowsText (map (toward direction) (policyRows (now (rows .entry))))) (now (out .exit)) r ⌝ }
+    requires { ⌜ at + length (rowsText edition1 (map (toward direction) (policyRows (now rows)))) < 2 ^ 64 ⌝ }
+    ensures { λ r. ⌜ Put (now (out .entry)) at (rowsText edition1 (map (toward direction) (policyRows (now (rows .entry))))) (now (out .exit)) r ⌝ }
 {
     let count = rows.len() / ROW_WORDS;
     let mut next = at;
@@ -251,25 +254,33 @@ fn put_rows(out: &mut [u8], at: usize, rows: &[u64], direction: Direction) -> us
     next
 }
 
-// The whole file as far as the room goes, and its length.
-fn put_file(out: &mut [u8], rows: &[u64], direction: Direction) -> usize
-    ensures { λ r. ⌜ Put (now (out .entry)) 0 (printed direction (policyRows (now (rows .entry)))) (now (out .exit)) r ⌝ }
+// The whole file of edition 1, as far as the room goes, and its length.
+fn put_edition1(out: &mut [u8], rows: &[u64], direction: Direction) -> usize
+    ensures { λ r. ⌜ Put (now (out .entry)) 0 (printed Edition.One direction (policyRows (now (rows .entry)))) (now (out .exit)) r ⌝ }
 {
     let next = put_text(out, 0, b"policy\t1\n");
     put_rows(out, next, rows, direction)
 }
 
-// The rows as a policy file for one direction, at the start of the lent room; a room that is too short is left alone. A first run
+fn put_file(out: &mut [u8], edition: Edition, rows: &[u64], direction: Direction) -> usize
+    ensures { λ r. ⌜ Put (now (out .entry)) 0 (printed edition direction (policyRows (now (rows .entry)))) (now (out .exit)) r ⌝ }
+{
+    match edition {
+        Edition::One => put_edition1(out, rows, direction),
+    }
+}
+
+// The rows as a policy file of that edition for one direction, at the start of the lent room; a room that is too short is left alone. A first run
 // into a room of one byte measures the file.
-pub fn print(rows: &[u64], direction: Direction, out: &mut [u8]) -> Printed
-    ensures { λ r. ⌜ r ≡ printedIn (length (now (out .entry))) (printed direction (policyRows (now (rows .entry)))) ⌝ }
-    ensures { λ _. ⌜ now (out .exit) ≡ printedRoom (now (out .entry)) (printed direction (policyRows (now (rows .entry)))) ⌝ }
+pub fn print(edition: Edition, rows: &[u64], direction: Direction, out: &mut [u8]) -> Printed
+    ensures { λ r. ⌜ r ≡ printedIn (length (now (out .entry))) (printed edition direction (policyRows (now (rows .entry)))) ⌝ }
+    ensures { λ _. ⌜ now (out .exit) ≡ printedRoom (now (out .entry)) (printed edition direction (policyRows (now (rows .entry)))) ⌝ }
 {
     let mut scratch = [0u8; 1];
-    let n = put_file(&mut scratch, rows, direction);
+    let n = put_file(&mut scratch, edition, rows, direction);
     if out.len() < n {
         return Printed::NoRoom;
     }
-    put_file(out, rows, direction);
+    put_file(out, edition, rows, direction);
     Printed::Bytes(n)
 }

@@ -12,9 +12,9 @@ use borrow.Author.Tests.{le-leb, lt-ltb, le-ltb, ne-eqb, eqb-true}
 use Rattle.selectors.specs.RangeLaws.{both-true}
 use Rattle.policy_text.specs.declared.Number.the-variants.{Is}
 use Rattle.policy_text.specs.Bytes.{dot, count, sameBytes}
-use Rattle.policy_text.specs.Format.{digits, value, unpadded, decimal, address}
+use Rattle.policy_text.specs.Decimals.{digits, value, unpadded, decimal, digitsOf, decimalText}
+use Rattle.policy_text.specs.Edition1.{address, lower, dotted, addressText}
 use Rattle.policy_text.specs.FormatLaws.{decimal-is}
-use Rattle.policy_text.specs.Print.{digitsOf, decimalText, lower, dotted, addressText}
 use Rattle.policy_text.specs.PrintLaws.{decimal-length, dotted-length}
 use Rattle.policy_round_trip.specs.Cuts.{count-append, differ, before-seam, after-seam}
 

@@ -1,8 +1,12 @@
 pub mod Cuts
 pub mod Decimals
+pub mod Lawful
 pub mod Ranges
 pub mod Rows
+pub mod Edition1
+pub mod Editions
 pub mod Files
 pub mod Accepted
+pub mod Lengths
 pub mod NormalForms
 pub mod Words

@@ -3,13 +3,14 @@ use Prim.Native.Nat.{ℕ, zero, suc, _+_, _-_, _≤_, _<_}
 use native.Mathlib.Omega.{arith}
 use native.Mathlib.Decide.{decLe}
 use native.Mathlib.Numerals.{add-one}
-use mathlib.Core.Path.{_≡_}
-use mathlib.Core.Bool.{true, false}
+use mathlib.Core.Path.{_≡_, refl}
+use mathlib.Core.Bool.{true, false, false≢true}
 use mathlib.Core.List.{List, [], _∷_}
-use lib.Dec.{leb}
+use lib.Dec.{leb, eqb}
 use lib.ListN.{length, getD, take, drop, length-drop, drop-of-length-le}
 use lib.Seq.{drop-cons, take-all}
-use borrow.Author.Tests.{lt-ltb, le-ltb, le-leb, lt-leb, eq-eqb, ne-eqb}
+use borrow.Author.Tests.{lt-ltb, le-ltb, le-leb, lt-leb, eq-eqb, ne-eqb, eqb-true}
+use Rattle.selectors.specs.RangeLaws.{both-true}
 use Rattle.policy_text.specs.Bytes.{index, has, count, sameBytes}
 
 -- What is left of a text from i on: its first byte and what is left from i + 1 on, or nothing.
@@ -80,3 +81,20 @@ module _ (b : ℕ) (s : List ℕ) (i : ℕ) (e : i ≡ index b s) where
   pub has-not : length s ≤ i → has b s ≡ false
   unfolding has
   has-not h = le-ltb (index b s) (length s) (rw e at h)
+
+-- Texts with the same bytes are one text.
+pub same-bytes : (s t : List ℕ) → sameBytes s t ≡ true → s ≡ t
+unfolding sameBytes
+same-bytes [] [] e = refl
+same-bytes [] (y ∷ t) e = absurd (false≢true e)
+same-bytes (x ∷ s) [] e = absurd (false≢true e)
+same-bytes (x ∷ s) (y ∷ t) e =
+    let p = both-true (eqb x y) (sameBytes s t) e in
+    let first : x ≡ y = eqb-true x y (p .0) in
+    let rest : s ≡ t = same-bytes s t (p .1) in
+    cc
+
+pub same-self : (s : List ℕ) → sameBytes s s ≡ true
+unfolding sameBytes
+same-self [] = refl
+same-self (x ∷ s) = rw (eq-eqb x x refl) (same-self s)

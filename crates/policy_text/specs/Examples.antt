@@ -8,11 +8,15 @@ use Rattle.selectors.specs.declared.Direction.the-variants.{Out}
 use Rattle.policy.specs.declared.Action.the-variants.{Bypass, Protect}
 use Rattle.policy.specs.declared.RowDirection.the-variants.{Only, Both}
 use Rattle.policy.specs.Policy.{PolicyRow}
+use Rattle.policy_text.specs.declared.Edition.the-variants.{One}
 use Rattle.policy_text.specs.declared.Number.the-variants.{Is, Bad}
-use Rattle.policy_text.specs.declared.Parsed.the-variants.{NotHeader, NotEnded, TooMany, BadRow}
+use Rattle.policy_text.specs.declared.Refusal.the-variants.{NotHeader, NotEnded, TooMany, BadRow}
 use Rattle.policy_text.specs.Bytes.{lf, index, has, before, after, count, sameBytes}
-use Rattle.policy_text.specs.Format.{any, header, digits, value, unpadded, decimal, address, maskBelow, maskedRange, protocolField, portField, addressField, directionField, actionField, field, fieldsFrom, rowOf, linesOf, rows, refused, rowsOf, parsePolicy}
-use Rattle.policy_text.specs.Print.{digitsOf, decimalText, dotted, addressText, protocolText, portText, rangeText, actionText, rowText, rowsText, policyText}
+use Rattle.policy_text.specs.Decimals.{digits, value, unpadded, decimal, digitsOf, decimalText}
+use Rattle.policy_text.specs.Format.{any, directionField, field, fieldsFrom, rowOf, linesOf, rowsOf, rangesFrom}
+use Rattle.policy_text.specs.Print.{rangeText, rowText, rowsText, policyText}
+use Rattle.policy_text.specs.Edition1.{header, address, maskBelow, maskedRange, protocolField, portField, addressField, actionField, dotted, addressText, protocolText, portText, actionText, edition1}
+use Rattle.policy_text.specs.Editions.{editionAmong, rows, refused, parsePolicy, rules}
 
 -- Decimals: `0`, `07`, `256` up to 255, and 2^64 up to 65,535.
 zero-read : decimal 255 (48 ∷ []) ≡ Is 0
@@ -76,27 +80,27 @@ all-protocols-printed = refl
 
 -- The order 23, 24, 21, 20: an empty file; one byte that is neither header nor LF; a header and a byte; a bad row beyond the limit; a bad row.
 empty-file : parsePolicy 256 [] ≡ refused NotHeader
-unfolding parsePolicy sameBytes count linesOf rowsOf before after index rowOf field fieldsFrom directionField
+unfolding parsePolicy editionAmong sameBytes count linesOf rowsOf before after index rowOf rangesFrom field fieldsFrom directionField
 empty-file = refl
 
 header-first : parsePolicy 256 (120 ∷ []) ≡ refused NotHeader
-unfolding parsePolicy sameBytes count linesOf rowsOf before after index rowOf field fieldsFrom directionField
+unfolding parsePolicy editionAmong sameBytes count linesOf rowsOf before after index rowOf rangesFrom field fieldsFrom directionField
 header-first = refl
 
 end-next : parsePolicy 256 (header ++ (120 ∷ [])) ≡ refused NotEnded
-unfolding parsePolicy sameBytes count linesOf rowsOf before after index rowOf field fieldsFrom directionField
+unfolding parsePolicy editionAmong sameBytes count linesOf rowsOf before after index rowOf rangesFrom field fieldsFrom directionField
 end-next = refl
 
 limit-before-rows : parsePolicy 0 (header ++ (lf ∷ [])) ≡ refused TooMany
-unfolding parsePolicy sameBytes count linesOf rowsOf before after index rowOf field fieldsFrom directionField
+unfolding parsePolicy editionAmong sameBytes count linesOf rowsOf before after index rowOf rangesFrom field fieldsFrom directionField
 limit-before-rows = refl
 
 first-row-bad : parsePolicy 1 (header ++ (lf ∷ [])) ≡ refused (BadRow 1)
-unfolding parsePolicy sameBytes count linesOf rowsOf before after index rowOf field fieldsFrom directionField
+unfolding parsePolicy editionAmong sameBytes count linesOf rowsOf before after index rowOf rangesFrom field fieldsFrom directionField
 first-row-bad = refl
 
-header-alone : parsePolicy 0 header ≡ rows []
-unfolding parsePolicy sameBytes count linesOf rowsOf before after index rowOf field fieldsFrom directionField
+header-alone : parsePolicy 0 header ≡ rows (rules One [])
+unfolding parsePolicy editionAmong sameBytes count linesOf rowsOf before after index rowOf rangesFrom field fieldsFrom directionField
 header-alone = refl
 
 -- A row of the document's example, and a bad row after it.
@@ -107,10 +111,10 @@ example = record {
   ranges = full addressSize ∷ full addressSize ∷ range 17 17 ∷ range 500 500 ∷ range 500 500 ∷ [];
 }
 
-example-printed : rowText example ≡ 98 ∷ 111 ∷ 116 ∷ 104 ∷ 9 ∷ 98 ∷ 121 ∷ 112 ∷ 97 ∷ 115 ∷ 115 ∷ 9 ∷ 97 ∷ 110 ∷ 121 ∷ 9 ∷ 97 ∷ 110 ∷ 121 ∷ 9 ∷ 49 ∷ 55 ∷ 9 ∷ 53 ∷ 48 ∷ 48 ∷ 9 ∷ 53 ∷ 48 ∷ 48 ∷ []
+example-printed : rowText edition1 example ≡ 98 ∷ 111 ∷ 116 ∷ 104 ∷ 9 ∷ 98 ∷ 121 ∷ 112 ∷ 97 ∷ 115 ∷ 115 ∷ 9 ∷ 97 ∷ 110 ∷ 121 ∷ 9 ∷ 97 ∷ 110 ∷ 121 ∷ 9 ∷ 49 ∷ 55 ∷ 9 ∷ 53 ∷ 48 ∷ 48 ∷ 9 ∷ 53 ∷ 48 ∷ 48 ∷ []
 unfolding example rowText actionText rangeText portText protocolText decimalText digitsOf sameRange
 example-printed = refl
 
-second-row-bad : parsePolicy 256 (policyText (example ∷ []) ++ (lf ∷ [])) ≡ refused (BadRow 2)
-unfolding example parsePolicy policyText rowsText rowText actionText rangeText portText protocolText decimalText digitsOf sameRange sameBytes count linesOf rowsOf before after has index rowOf field fieldsFrom directionField actionField addressField protocolField portField decimal unpadded digits value inField
+second-row-bad : parsePolicy 256 (policyText edition1 (example ∷ []) ++ (lf ∷ [])) ≡ refused (BadRow 2)
+unfolding example parsePolicy editionAmong policyText rowsText rowText actionText rangeText portText protocolText decimalText digitsOf sameRange sameBytes count linesOf rowsOf before after has index rowOf rangesFrom field fieldsFrom directionField actionField addressField protocolField portField decimal unpadded digits value inField
 second-row-bad = refl

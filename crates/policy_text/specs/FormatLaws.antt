@@ -13,7 +13,8 @@ use Rattle.policy_text.specs.declared.Number.{Number}
 use Rattle.policy_text.specs.declared.Number.the-variants.{Is, Bad}
 use Rattle.policy_text.specs.Bytes.{dot, before, after}
 use Rattle.policy_text.specs.BytesLaws.{left-more, left-none}
-use Rattle.policy_text.specs.Format.{digits, value, unpadded, decimal, fourOctets, address, maskBelow}
+use Rattle.policy_text.specs.Decimals.{digits, value, unpadded, decimal}
+use Rattle.policy_text.specs.Edition1.{fourOctets, address, maskBelow}
 
 module _ (s : List ℕ) (i : ℕ) where
   pub digits-next : i < length s → 48 ≤ getD s i 0 → getD s i 0 ≤ 57 → digits (drop i s) ≡ digits (drop (i + 1) s)

@@ -13,7 +13,9 @@ use Rattle.selectors.specs.Range.{Range, full, sameRange, absent, addressSize, 
 use Rattle.policy.specs.declared.Action.{Action}
 use Rattle.policy.specs.declared.Action.the-variants.{Discard, Bypass, Protect}
 use Rattle.policy_text.specs.Bytes.{dash}
-use Rattle.policy_text.specs.Print.{digitsOf, decimalText, lower, dotted, addressText, protocolText, portText, rangeText, rangesText, actionText}
+use Rattle.policy_text.specs.Decimals.{digitsOf, decimalText}
+use Rattle.policy_text.specs.Edition1.{edition1, lower, dotted, addressText, protocolText, portText, actionText}
+use Rattle.policy_text.specs.Print.{rangeText, rangesText}
 
 -- A decimal has at most the digits that it may have, and a number below 10^(j+1) at most j + 1.
 pub digits-most : (k n : ℕ) → length (digitsOf k n) ≤ k
@@ -69,7 +71,7 @@ range-length M size text r o l h = by (sameRange r (full size)) refl (eqb (r .lo
 -- Five ranges of at most A, A, P, Q and Q bytes.
 pub ranges-length : (A P Q : ℕ) (l r p x y : Range) → length (rangeText addressSize addressText l) ≤ A → length (rangeText addressSize addressText r) ≤ A
     → length (rangeText protocolSize protocolText p) ≤ P → length (rangeText portSize portText x) ≤ Q → length (rangeText portSize portText y) ≤ Q
-    → length (rangesText (l ∷ r ∷ p ∷ x ∷ y ∷ [])) ≤ A + A + P + Q + Q + 5
+    → length (rangesText edition1 (l ∷ r ∷ p ∷ x ∷ y ∷ [])) ≤ A + A + P + Q + Q + 5
 ranges-length A P Q l r p x y a b c d e = simp length-append (omega arith)
 
 -- Whatever numbers a row has, its texts are short.
@@ -87,7 +89,7 @@ action-most Discard = omega arith
 action-most Bypass = omega arith
 action-most (Protect n) = omega (arith, decimal-most n)
 
-pub ranges-most : (l r p x y : Range) → length (rangesText (l ∷ r ∷ p ∷ x ∷ y ∷ [])) ≤ 258
+pub ranges-most : (l r p x y : Range) → length (rangesText edition1 (l ∷ r ∷ p ∷ x ∷ y ∷ [])) ≤ 258
 unfolding addressText protocolText
 ranges-most l r p x y =
     ranges-length 65 41 41 l r p x y (address l) (address r)

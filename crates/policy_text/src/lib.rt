@@ -3,7 +3,7 @@ ghost use mathlib.Core.Path.{_≡_};
 ghost use Prim.Native.Nat.{_≤_, _<_};
 ghost use lib.ListN.{length};
 ghost use Rattle.policy_text.specs.Bytes.{index, before, after, count, sameBytes};
-ghost use Rattle.policy_text.specs.Format.{unpadded, decimal};
+ghost use Rattle.policy_text.specs.Decimals.{unpadded, decimal};
 
 // A number that a text stands for, or none.
 pub enum Number {
@@ -117,15 +117,33 @@ pub fn decimal(s: &[u8], max: u16) -> Number
     Number::Is(n)
 }
 
-// What parsing a policy file answers.
-pub enum Parsed {
-    // The count of rows.
-    Rows(usize),
+// Why a file is no policy: document 01's 23, 24, 21 and 20.
+pub enum Refusal {
     NotHeader,
     NotEnded,
     TooMany,
     // With the number of the row, the first being 1.
     BadRow(usize),
+}
+
+// The editions of the policy file, by their header lines.
+pub enum Edition {
+    // `policy`, tab, `1`.
+    One,
+}
+
+// A policy file, to a caller with room for its rows.
+pub enum File {
+    // The edition and the count of rows.
+    Rows(Edition, usize),
+    Refused(Refusal),
+}
+
+// What parsing a policy file into a lent room answers.
+pub enum Parsed {
+    // The edition and the count of rows.
+    Rows(Edition, usize),
+    Refused(Refusal),
     // The rows are good, and the lent room is too short for them.
     NoRoom,
 }

@@ -9,6 +9,7 @@ use policy_parse::parse;
 use policy_print::Printed;
 use policy_print::print;
 use policy_text::Parsed;
+use policy_text::Refusal;
 use policy_text::before;
 use selectors::Direction;
 
@@ -62,11 +63,17 @@ fn answer(bytes: &[u8]) {
 fn show(parsed: Parsed, rows: &[u64]) {
     match parsed {
         Parsed::Rows(n) => show_rows(rows, n),
-        Parsed::NotHeader => say(b"23"),
-        Parsed::NotEnded => say(b"24"),
-        Parsed::TooMany => say(b"21"),
-        Parsed::BadRow(i) => show_count(b"20, row ", i),
+        Parsed::Refused(refusal) => show_refusal(refusal),
         Parsed::NoRoom => say(b"no room"),
+    }
+}
+
+fn show_refusal(refusal: Refusal) {
+    match refusal {
+        Refusal::NotHeader => say(b"23"),
+        Refusal::NotEnded => say(b"24"),
+        Refusal::TooMany => say(b"21"),
+        Refusal::BadRow(i) => show_count(b"20, row ", i),
     }
 }
 

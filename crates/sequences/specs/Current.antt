@@ -11,7 +11,7 @@ use Rattle.packet.specs.Header.{Bytes}
 use Rattle.packet.specs.declared.Reading.{Reading}
 use Rattle.packet.specs.declared.Reading.the-variants.{Readable, Unreadable}
 use Rattle.policy.specs.Policy.{PolicyRow, matches, orderedSearch, bothWays}
-use Rattle.policy_text.specs.Format.{Policy, refused, rows, parsePolicy}
+use Rattle.policy_text.specs.Editions.{Policy, refused, rows, parsePolicy}
 use Rattle.decorrelate.specs.Form.{form}
 use Rattle.spd_cache.specs.Cache.{slotCount, replaced}
 use Rattle.spd.specs.Spd.{accepting, ifAccepted}

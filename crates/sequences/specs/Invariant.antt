@@ -14,16 +14,14 @@ use Rattle.packet.specs.declared.Reading.{Reading}
 use Rattle.packet.specs.declared.Reading.the-variants.{Readable, Unreadable}
 use Rattle.policy.specs.Policy.{PolicyRow, bothWays}
 use Rattle.policy.specs.Words.{policyRows}
-use Rattle.policy_text.specs.Format.{Policy, refused, rows, parsePolicy}
-use Rattle.policy_text.specs.declared.Parsed.{Parsed}
-use Rattle.policy_text.specs.declared.Parsed.the-variants.{Rows, NotHeader as NoHeader, NotEnded as NoEnd, TooMany as OverRows, BadRow as Bad, NoRoom}
+use Rattle.policy_text.specs.Editions.{Policy, refused, rows, parsePolicy}
 use Rattle.decorrelate.specs.Form.{form}
 use Rattle.decorrelate.specs.FormLaws.{form-words-rows}
 use Rattle.spd_cache.specs.declared.Cache.{Cache}
 use Rattle.spd_cache.specs.Cache.{cached, emptyCache, lookedUp}
 use Rattle.spd_cache.specs.SlotLaws.{Filled, empty-filled, empty-cached, lookup-filled, lookup-mem}
 use Rattle.spd.specs.declared.Acceptance.{Acceptance}
-use Rattle.spd.specs.declared.Acceptance.the-variants.{Accepted, NotHeader, NotEnded, TooMany, BadRow, TooLarge}
+use Rattle.spd.specs.declared.Acceptance.the-variants.{Accepted, Refused, TooLarge}
 use Rattle.spd.specs.declared.Caches.{Caches}
 use Rattle.spd.specs.Spd.{spdWords, spdAfter, emptyCaches, cachesAfter, accepting, ifAccepted}
 use Rattle.spd_words.specs.Words.{addressOf, rowsOf}
@@ -57,10 +55,7 @@ cachesOr c (some rs) = emptyCaches
 if-accepted : {A : Type 0} (new old : A) (take : Option (List PolicyRow) → A) (rs : List PolicyRow) → take (some rs) ≡ new → take none ≡ old
     → (a : Acceptance) → ifAccepted a new old ≡ take (ifAccepted a (some rs) none)
 if-accepted new old take rs p q Accepted = sym p
-if-accepted new old take rs p q NotHeader = sym q
-if-accepted new old take rs p q NotEnded = sym q
-if-accepted new old take rs p q TooMany = sym q
-if-accepted new old take rs p q (BadRow i) = sym q
+if-accepted new old take rs p q (Refused r) = sym q
 if-accepted new old take rs p q (TooLarge d) = sym q
 
 spd-settled : (capacity limit : ℕ) (ws : List ℕ) (f : Policy) → spdAfter capacity limit ws f ≡ spdOr capacity ws (acceptedRows limit f)
@@ -69,15 +64,7 @@ spd-settled capacity limit ws (rows rs) =
     if-accepted (spdWords capacity (addressOf ws) rs) ws (spdOr capacity ws) rs refl refl (accepting limit (rows rs))
 
 caches-settled : (limit : ℕ) (c : Caches) (f : Policy) → cachesAfter limit c f ≡ cachesOr c (acceptedRows limit f)
-caches-settled limit c (refused p) = kept p
-  where
-    kept : (p : Parsed) → cachesAfter limit c (refused p) ≡ c
-    kept (Rows n) = refl
-    kept NoHeader = refl
-    kept NoEnd = refl
-    kept OverRows = refl
-    kept (Bad i) = refl
-    kept NoRoom = refl
+caches-settled limit c (refused r) = refl
 caches-settled limit c (rows rs) = if-accepted emptyCaches c (cachesOr c) rs refl refl (accepting limit (rows rs))
 
 none≢some : (rs : List PolicyRow) → _≡_ {A = Option (List PolicyRow)} none (some rs) → ⊥
@@ -89,10 +76,7 @@ accepted-within limit (rows qs) rs e = by (accepting limit (rows qs)) refl e
   where
     by : (a : Acceptance) → accepting limit (rows qs) ≡ a → ifAccepted a (some qs) none ≡ some rs → Within limit rs
     by Accepted g h = let same : qs ≡ rs = cc in subst (Within limit) same (accepted-exactly limit qs .0 g)
-    by NotHeader g h = absurd (none≢some rs h)
-    by NotEnded g h = absurd (none≢some rs h)
-    by TooMany g h = absurd (none≢some rs h)
-    by (BadRow i) g h = absurd (none≢some rs h)
+    by (Refused r) g h = absurd (none≢some rs h)
     by (TooLarge d) g h = absurd (none≢some rs h)
 
 -- The cache of a direction, when a policy with these rows is current: its slots are filled from the first on, and each row that it holds

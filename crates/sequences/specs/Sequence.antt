@@ -6,7 +6,7 @@ use Prim.Native.Nat.{ℕ, _*_}
 use mathlib.Core.List.{List, [], _∷_}
 use lib.ListN.{replicate}
 use Rattle.selectors.specs.declared.Direction.the-variants.{Out, In}
-use Rattle.policy_text.specs.Format.{parsePolicy}
+use Rattle.policy_text.specs.Editions.{parsePolicy}
 use Rattle.spd.specs.declared.Acceptance.{Acceptance}
 use Rattle.spd.specs.declared.Caches.{Caches}
 use Rattle.spd.specs.Spd.{spdWords, accepting, spdAfter, emptyCaches, cachesAfter, acceptanceNumber}

@@ -7,14 +7,12 @@ use lib.ListN.{length}
 use Rattle.selectors.specs.declared.Direction.{Direction}
 use Rattle.selectors.specs.declared.Direction.the-variants.{Out, In}
 use Rattle.policy.specs.Policy.{PolicyRow}
-use Rattle.policy_text.specs.declared.Parsed.{Parsed}
-use Rattle.policy_text.specs.declared.Parsed.the-variants.{Rows, NotHeader as NoHeader, NotEnded as NoEnd, TooMany as OverRows, BadRow as Bad, NoRoom}
-use Rattle.policy_text.specs.Format.{Policy, refused, rows}
+use Rattle.policy_text.specs.Editions.{Policy, refused, rows, refusalNumber, refusalCarries}
 use Rattle.decorrelate.specs.Form.{form, formRoom, directionNumber}
 use Rattle.spd_cache.specs.Cache.{emptyCache}
 use Rattle.spd_words.specs.Words.{addressOf}
 use Rattle.spd.specs.declared.Acceptance.{Acceptance}
-use Rattle.spd.specs.declared.Acceptance.the-variants.{Accepted, NotHeader, NotEnded, TooMany, BadRow, TooLarge}
+use Rattle.spd.specs.declared.Acceptance.the-variants.{Accepted, Refused, TooLarge}
 use Rattle.spd.specs.declared.Caches.{Caches}
 use Rattle.spd.specs.declared.Settled.{Settled}
 
@@ -28,18 +26,9 @@ abbrev pub spdWords : ℕ → ℕ → List PolicyRow → List ℕ
 spdWords capacity address rs =
     heldWords address (length (form Out rs)) (formRoom capacity Out rs) (length (form In rs)) (formRoom capacity In rs)
 
--- A refused file is refused with its own answer. (`Rows` and `NoRoom` refuse no file.)
-abbrev pub refusal : Parsed → Acceptance
-refusal (Rows n) = NotHeader
-refusal NoHeader = NotHeader
-refusal NoEnd = NotEnded
-refusal OverRows = TooMany
-refusal (Bad i) = BadRow i
-refusal NoRoom = NotHeader
-
 -- 'A policy is checked in the order 23, 24, 21, 20 (first bad row), 22', and 22 has the 'way, out tried first'.
 abbrev pub accepting : ℕ → Policy → Acceptance
-accepting limit (refused p) = refusal p
+accepting limit (refused r) = Refused r
 accepting limit (rows rs) =
     cond (leb (length (form Out rs)) limit)
     (cond (leb (length (form In rs)) limit) Accepted (TooLarge In))
@@ -48,10 +37,7 @@ accepting limit (rows rs) =
 -- 'Answers 10 and up for a policy … change nothing lent.'
 abbrev pub ifAccepted : {A : Type 0} → Acceptance → A → A → A
 ifAccepted Accepted new old = new
-ifAccepted NotHeader new old = old
-ifAccepted NotEnded new old = old
-ifAccepted TooMany new old = old
-ifAccepted (BadRow i) new old = old
+ifAccepted (Refused r) new old = old
 ifAccepted (TooLarge d) new old = old
 
 -- The words after a policy file. The address is 'never changed'.
@@ -74,19 +60,13 @@ answer a c = record { acceptance = a; caches = c }
 abbrev pub settled : ℕ → Caches → Policy → Settled
 settled limit c p = answer (accepting limit p) (cachesAfter limit c p)
 
--- Document 01's numbers, and what they carry: the row's number, or the way.
+-- Document 01's numbers, and what they carry: what a refusal carries, or the way.
 abbrev pub acceptanceNumber : Acceptance → ℕ
 acceptanceNumber Accepted = 5
-acceptanceNumber NotHeader = 23
-acceptanceNumber NotEnded = 24
-acceptanceNumber TooMany = 21
-acceptanceNumber (BadRow i) = 20
+acceptanceNumber (Refused r) = refusalNumber r
 acceptanceNumber (TooLarge d) = 22
 
 abbrev pub acceptanceCarries : Acceptance → ℕ
 acceptanceCarries Accepted = 0
-acceptanceCarries NotHeader = 0
-acceptanceCarries NotEnded = 0
-acceptanceCarries TooMany = 0
-acceptanceCarries (BadRow i) = i
+acceptanceCarries (Refused r) = refusalCarries r
 acceptanceCarries (TooLarge d) = directionNumber d

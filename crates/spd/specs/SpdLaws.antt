@@ -14,13 +14,13 @@ use Rattle.selectors.specs.declared.Direction.the-variants.{Out, In}
 use Rattle.normal_form.specs.Search.{Combination}
 use Rattle.policy.specs.Policy.{PolicyRow, orderedSearch}
 use Rattle.policy.specs.Words.{rowWords, policyRows}
-use Rattle.policy_text.specs.Format.{Policy, refused, rows}
+use Rattle.policy_text.specs.Editions.{Policy, refused, rows}
 use Rattle.decorrelate.specs.Form.{form, formWords, padded, formRoom}
 use Rattle.decorrelate.specs.AgreeLaws.{empty-form}
 use Rattle.decorrelate.specs.FormLaws.{form-words-length, form-search}
 use Rattle.decorrelate.specs.RoomLaws.{padded-size, padded-start}
 use Rattle.spd.specs.declared.Acceptance.{Acceptance}
-use Rattle.spd.specs.declared.Acceptance.the-variants.{Accepted, NotHeader, NotEnded, TooMany, BadRow, TooLarge}
+use Rattle.spd.specs.declared.Acceptance.the-variants.{Accepted, Refused, TooLarge}
 use Rattle.spd.specs.Spd.{heldWords, spdWords, accepting, ifAccepted, spdAfter}
 use Rattle.spd_words.specs.Words.{spdSize, addressOf, rowsOf, rowsAt}
 
@@ -101,8 +101,5 @@ address-kept capacity limit ws (rows rs) = by (accepting limit (rows rs))
   where
     by : (a : Acceptance) → addressOf (ifAccepted a (spdWords capacity (addressOf ws) rs) ws) ≡ addressOf ws
     by Accepted = refl
-    by NotHeader = refl
-    by NotEnded = refl
-    by TooMany = refl
-    by (BadRow i) = refl
+    by (Refused r) = refl
     by (TooLarge d) = refl

@@ -8,7 +8,7 @@ use borrow.Author.Tests.{le-leb, lt-leb}
 use Rattle.selectors.specs.declared.Direction.{Direction}
 use Rattle.selectors.specs.declared.Direction.the-variants.{Out, In}
 use Rattle.policy.specs.Policy.{PolicyRow}
-use Rattle.policy_text.specs.Format.{rows}
+use Rattle.policy_text.specs.Editions.{rows}
 use Rattle.decorrelate.specs.Form.{form}
 use Rattle.decorrelate.specs.RoomLaws.{Held}
 use Rattle.spd.specs.declared.Acceptance.the-variants.{Accepted, TooLarge}

@@ -5,13 +5,13 @@ ghost use Prim.Native.Nat.{_+_, _≤_};
 ghost use lib.ListN.{length};
 ghost use lib.Seq.{paste};
 ghost use Rattle.policy.specs.Words.{policyRows, policyWords, rowLimit};
-ghost use Rattle.policy_text.specs.Format.{rows, parsePolicy};
+ghost use Rattle.policy_text.specs.Editions.{rows, parsePolicy};
 ghost use Rattle.spd.specs.Spd.{heldWords, spdWords, spdAfter, emptyCaches, answer, settled};
 use decorrelate::Form;
-use policy::LIMIT;
 use policy::POLICY_WORDS;
 use policy::ROW_WORDS;
-use policy_text::Parsed;
+use policy_text::File;
+use policy_text::Refusal;
 use selectors::Direction;
 use spd_cache::Cache;
 use spd_words::IN_ROWS;
@@ -22,14 +22,8 @@ use spd_words::SPD_WORDS;
 pub enum Acceptance {
     // 5: the policy is accepted.
     Accepted,
-    // 23: the first nine bytes aren't the header line.
-    NotHeader,
-    // 24: the last byte isn't LF.
-    NotEnded,
-    // 21: too many rows.
-    TooMany,
-    // 20: a bad row, with its number, the first being 1.
-    BadRow(usize),
+    // 23, 24, 21, 20: the file is no policy.
+    Refused(Refusal),
     // 22: the normal form for the direction has too many rows.
     TooLarge(Direction),
 }
@@ -125,19 +119,14 @@ fn load(words: &mut [u64; SPD_WORDS], caches: Caches, policy: &[u64]) -> Settled
 }
 
 // The policy of a policy file replaces the one that the gateway holds, and empties the caches; a refusal changes nothing.
-// (There is room for the limit's rows.)
 pub fn accept(words: &mut [u64; SPD_WORDS], caches: Caches, bytes: &[u8]) -> Settled
     ensures { λ r. ⌜ r ≡ settled rowLimit caches (parsePolicy rowLimit (now (bytes .entry))) ⌝ }
     ensures { λ _. ⌜ now (words .exit) ≡ spdAfter rowLimit rowLimit (now (words .entry)) (parsePolicy rowLimit (now (bytes .entry))) ⌝ }
 {
     let mut policy = [0u64; POLICY_WORDS];
-    let parsed = policy_parse::parse(bytes, LIMIT, &mut policy);
-    match parsed {
-        Parsed::Rows(n) => load(words, caches, &policy[..n * ROW_WORDS]),
-        Parsed::NotHeader => refuse(Acceptance::NotHeader, caches),
-        Parsed::NotEnded => refuse(Acceptance::NotEnded, caches),
-        Parsed::TooMany => refuse(Acceptance::TooMany, caches),
-        Parsed::BadRow(row) => refuse(Acceptance::BadRow(row), caches),
-        Parsed::NoRoom => refuse(Acceptance::NotHeader, caches),
+    let file = policy_parse::parse_policy(bytes, &mut policy);
+    match file {
+        File::Rows(n) => load(words, caches, &policy[..n * ROW_WORDS]),
+        File::Refused(refusal) => refuse(Acceptance::Refused(refusal), caches),
     }
 }

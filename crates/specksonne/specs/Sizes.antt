@@ -3,7 +3,7 @@
 use Prim.Native.Nat.{ℕ, _+_, _*_}
 use lib.ListN.{length}
 use Rattle.policy.specs.Words.{rowLimit}
-use Rattle.policy_text.specs.Format.{header}
+use Rattle.policy_text.specs.Edition1.{header}
 
 abbrev pub abiNumber : ℕ
 abiNumber = 1

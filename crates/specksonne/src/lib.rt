@@ -7,7 +7,7 @@ ghost use Rattle.selectors.specs.Words.{selectorsOf};
 ghost use Rattle.packet.specs.Read.{readPacket};
 ghost use Rattle.policy.specs.Policy.{orderedSearch, matchFrom};
 ghost use Rattle.policy.specs.Words.{policyRows, rowWords, rowLimit, rowOf};
-ghost use Rattle.policy_text.specs.Format.{parsePolicy};
+ghost use Rattle.policy_text.specs.Editions.{parsePolicy};
 ghost use Rattle.policy_parse.specs.Parsing.{parsedIn, parsedRoom, parsedNumber};
 ghost use Rattle.policy_print.specs.Printing.{printed, printedIn, printedRoom, printedNumber};
 ghost use Rattle.normaliser.specs.Normalise.{normalised, normalisedBytes, normalisedNumber, normalisedCarries};

@@ -12,14 +12,14 @@ enum-told-2 c = search needs
 enum-known-compared : tie.Need-enum-known-compared
 enum-known-compared c = search needs
 
-refused-carries-requires : tie.Need-refused-carries-requires
-refused-carries-requires c κs = search needs
+refusal-carries-requires : tie.Need-refusal-carries-requires
+refusal-carries-requires c κs = search needs
 
 enum-known-compared-2 : tie.Need-enum-known-compared-2
 enum-known-compared-2 c = search needs
 
-refused-carries-requires-2 : tie.Need-refused-carries-requires-2
-refused-carries-requires-2 c κs = search needs
+refusal-carries-requires-2 : tie.Need-refusal-carries-requires-2
+refusal-carries-requires-2 c κs = search needs
 
 returns : tie.Need-returns
 returns c = rw (c .enum-told .given .1)
@@ -28,10 +28,10 @@ returns-2 : tie.Need-returns-2
 returns-2 c = rw (c .enum-told2 .given .1)
 
 returns-3 : tie.Need-returns-3
-returns-3 c = rw (c .refused-carries .ensures, c .before .before .compared .given .1)
+returns-3 c = rw (c .refusal-carries .ensures, c .before .before .compared .given .1)
 
 returns-4 : tie.Need-returns-4
-returns-4 c = rw (c .refused-carries2 .ensures, c .before .before .compared2 .given .1)
+returns-4 c = rw (c .refusal-carries2 .ensures, c .before .before .compared2 .given .1)
 
 pub compared-carries-spec : {M : Type 1} → statement M
 compared-carries-spec =
@@ -40,9 +40,9 @@ compared-carries-spec =
     enum-told
     enum-told-2
     enum-known-compared
-    refused-carries-requires
+    refusal-carries-requires
     enum-known-compared-2
-    refused-carries-requires-2
+    refusal-carries-requires-2
     returns
     returns-2
     returns-3

@@ -4,6 +4,7 @@ use mathlib.Core.Path.{_≡_, subst, _∙_}
 use denote.Ref.{now}
 use borrow.Author.Needs.{needs}
 use Rattle.policy.specs.Words.{policyRows, rowLimit}
+use Rattle.policy_text.specs.Editions.{rules}
 use Rattle.layout.specs.declared.Laid.{Laid}
 use Rattle.layout.specs.declared.Laid.the-variants.{Rows, Over, NoRoom}
 use Rattle.decorrelate.specs.FormLaws.{Laying, laying, form-written, form-left}
@@ -12,11 +13,11 @@ use Rattle.decorrelate.proofs.form_of.Tie as tie
 
 -- The layout's answer, with room for the limit: the rows of the normal form, or that there are too many.
 laid : (c : tie.After-normal-form) (r : Laid) → c .normal-form .result ≡ r
-    → Laying rowLimit (c .before .before .before .args .direction) (policyRows (now (c .before .before .before .args .rows))) (c .normal-form .last .1 .1 .0) r
+    → Laying rowLimit (c .before .before .before .args .direction) (rules (c .before .before .before .args .edition) (policyRows (now (c .before .before .before .args .rows)))) (c .normal-form .last .1 .1 .1 .0) r
 laid c r e =
     let s = c .before .before .before in
-    subst (Laying rowLimit (s .args .direction) (policyRows (now (s .args .rows))) (c .normal-form .last .1 .1 .0)) e
-    (laying rowLimit (s .args .direction) (policyRows (now (s .args .rows))) _ _ _ (search needs) (c .normal-form .ensures))
+    subst (Laying rowLimit (s .args .direction) (rules (s .args .edition) (policyRows (now (s .args .rows)))) (c .normal-form .last .1 .1 .1 .0)) e
+    (laying rowLimit (s .args .direction) (rules (s .args .edition) (policyRows (now (s .args .rows)))) _ _ _ (search needs) (c .normal-form .ensures))
 
 few : (c : tie.After-laid) → c .laid .given .0 .0 ≤ rowLimit
 unfolding Laying

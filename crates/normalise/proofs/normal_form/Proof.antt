@@ -4,7 +4,7 @@ use native.Mathlib.Omega.{arith}
 use mathlib.Core.Path.{_≡_, ap, _∙_}
 use lib.ListN.{length}
 use Rattle.policy.specs.Words.{rowLimit}
-use Rattle.policy_text.specs.Format.{parsePolicy}
+use Rattle.policy_text.specs.Editions.{parsePolicy}
 use Rattle.normaliser.specs.Normalise.{normalised}
 use Rattle.normalise.specs.Room.{formBytes, Answered, answered}
 use borrow.Author.Needs.{needs}

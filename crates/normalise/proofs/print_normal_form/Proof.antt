@@ -4,7 +4,7 @@ use native.Mathlib.Omega.{arith}
 use mathlib.Core.Path.{subst}
 use lib.ListN.{length, length-take}
 use Rattle.policy.specs.Words.{rowLimit}
-use Rattle.policy_text.specs.Format.{parsePolicy}
+use Rattle.policy_text.specs.Editions.{parsePolicy}
 use Rattle.normaliser.specs.declared.Normalised.the-variants.{Printed}
 use Rattle.normalise.specs.Room.{Answered, printed-within, printed-file}
 use borrow.Author.Needs.{needs}

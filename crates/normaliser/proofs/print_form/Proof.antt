@@ -7,6 +7,7 @@ use lib.ListN.{length, length-take}
 use denote.Ref.{now}
 use borrow.Author.Needs.{needs}
 use Rattle.policy.specs.Words.{policyRows, rowLimit}
+use Rattle.policy_text.specs.Editions.{rules}
 use Rattle.policy_print.specs.Printing.{printedIn, printedRoom}
 use Rattle.decorrelate.specs.FormLaws.{form-over}
 use Rattle.decorrelate.specs.RoomLaws.{Held, held}
@@ -16,8 +17,8 @@ use Rattle.normaliser.proofs.print_form.Tie as tie
 
 -- The normal form stands in the room.
 own : (c : tie.After-form)
-    → Held rowLimit rowLimit (c .before .before .before .before .before .before .args .direction) (policyRows (now (c .before .before .before .before .before .before .args .policy)))
-    (c .form .given .0 .0) (c .before .before .form-of .last .1 .1 .0)
+    → Held rowLimit rowLimit (c .before .before .before .before .before .before .args .direction) (rules (c .before .before .before .before .before .before .args .edition) (policyRows (now (c .before .before .before .before .before .before .args .policy))))
+    (c .form .given .0 .0) (c .before .before .form-of .last .1 .1 .1 .0)
 own c = let f = c .before .before .form-of in held rowLimit rowLimit (omega arith) _ _ _ _ _ (sym (f .ensures .0) ∙ c .form .given .1) (f .ensures .1)
 
 form-of-requires : tie.Need-form-of-requires
@@ -49,7 +50,7 @@ returns c =
     let l = c .before .before .before .before .before .before in
     let s = l .before .before .before .before .before .before in
     let d = s .args .direction in
-    let rs = policyRows (now (s .args .policy)) in
+    let rs = rules (s .args .edition) (policyRows (now (s .args .policy))) in
     let out = now (s .args .out) in
     let h = own l in
     let e = c .before .before .print-rows .ensures in
@@ -61,7 +62,8 @@ returns-2 : tie.Need-returns-2
 returns-2 c =
     let f = c .before .before .form-of in
     let s = c .before .before .before .before .before .before in
-    too-large rowLimit (s .args .direction) (policyRows (now (s .args .policy))) (now (s .args .out)) (form-over rowLimit _ _ (sym (f .ensures .0) ∙ c .enum-told .given .1))
+    let rs = rules (s .args .edition) (policyRows (now (s .args .policy))) in
+    too-large rowLimit (s .args .direction) rs (now (s .args .out)) (form-over rowLimit (s .args .direction) rs (sym (f .ensures .0) ∙ c .enum-told .given .1))
 
 pub print-form-spec : {M : Type 1} → statement M
 print-form-spec =

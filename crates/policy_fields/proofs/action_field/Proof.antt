@@ -2,7 +2,7 @@
 use mathlib.Core.Path.{_≡_, sym, _∙_}
 use mathlib.Core.Bool.{true, false}
 use Rattle.policy_text.specs.Bytes.{dash, before, sameBytes}
-use Rattle.policy_text.specs.Format.{bypassWord, discardWord, protectWord, actionField}
+use Rattle.policy_text.specs.Edition1.{bypassWord, discardWord, protectWord, actionField}
 use Rattle.policy_text.specs.FormatLaws.{decimal-at-most}
 use borrow.Author.Needs.{needs}
 use Rattle.policy_fields.proofs.action_field.Statement.{statement}

@@ -7,7 +7,8 @@ use mir.Syntax.{w64}
 use mir.Val.{Fits}
 use Rattle.policy_text.specs.declared.Number.the-variants.{Is}
 use Rattle.policy_text.specs.Bytes.{dot, before, after}
-use Rattle.policy_text.specs.Format.{decimal, address}
+use Rattle.policy_text.specs.Decimals.{decimal}
+use Rattle.policy_text.specs.Edition1.{address}
 use Rattle.policy_text.specs.FormatLaws.{decimal-bound}
 use borrow.Author.Needs.{needs}
 use Rattle.policy_fields.proofs.address.Statement.{statement}

@@ -3,7 +3,8 @@ use mathlib.Core.Path.{_≡_, sym, _∙_}
 use mathlib.Core.Bool.{false}
 use Rattle.policy_text.specs.Bytes.{dash, slash, sameBytes, has}
 use Rattle.policy_text.specs.BytesLaws.{has-there, has-not}
-use Rattle.policy_text.specs.Format.{any, addressField}
+use Rattle.policy_text.specs.Format.{any}
+use Rattle.policy_text.specs.Edition1.{addressField}
 use Rattle.policy_text.specs.FormatLaws.{address-at-most}
 use borrow.Author.Needs.{needs}
 use Rattle.policy_fields.proofs.address_field.Statement.{statement}

@@ -2,7 +2,7 @@
 use Rattle.policy_text.specs.FormatLaws.{power-half, power-fits, mask-found, mask-next, mask-none}
 use mathlib.Core.Path.{refl, _≡_, sym, _∙_}
 use Prim.Native.Nat.{_≤_, _^_}
-use Rattle.policy_text.specs.Format.{isMask, maskBelow}
+use Rattle.policy_text.specs.Edition1.{isMask, maskBelow}
 use borrow.Author.Needs.{needs}
 use Rattle.policy_fields.proofs.is_mask.Statement.{statement}
 use Rattle.policy_fields.proofs.is_mask.Tie as tie

@@ -3,7 +3,8 @@ use mathlib.Core.Path.{_≡_, sym, _∙_}
 use mathlib.Core.Bool.{false}
 use Rattle.policy_text.specs.Bytes.{dash, sameBytes}
 use Rattle.policy_text.specs.BytesLaws.{has-there, has-not}
-use Rattle.policy_text.specs.Format.{any, protocolField}
+use Rattle.policy_text.specs.Format.{any}
+use Rattle.policy_text.specs.Edition1.{protocolField}
 use borrow.Author.Needs.{needs}
 use Rattle.policy_fields.proofs.protocol_field.Statement.{statement}
 use Rattle.policy_fields.proofs.protocol_field.Tie as tie

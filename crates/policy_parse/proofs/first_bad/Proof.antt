@@ -5,6 +5,7 @@ use mathlib.Core.Path.{_≡_, sym, _∙_}
 use lib.ListN.{length, drop}
 use Rattle.policy_fields.specs.declared.RowText.the-variants.{Row as RowIs, Bad as RowBad}
 use Rattle.policy_text.specs.Bytes.{lf, before}
+use Rattle.policy_text.specs.Edition1.{edition1}
 use Rattle.policy_text.specs.Format.{linesOf, rowsOf}
 use Rattle.policy_fields.specs.Answers.{entryOf}
 use Rattle.policy_parse.specs.Parsing.{badOf}
@@ -15,7 +16,7 @@ use Rattle.policy_parse.proofs.first_bad.Tie as tie
 
 abbrev Inv-loop : tie.InvT-loop
 Inv-loop body count at₀ i₀ at i =
-    (at ≤ length body) × (i ≤ count) × (badOf (rowsOf 1 (linesOf count body)) ≡ badOf (rowsOf (i + 1) (linesOf (count - i) (drop at body))))
+    (at ≤ length body) × (i ≤ count) × (badOf (rowsOf edition1 1 (linesOf count body)) ≡ badOf (rowsOf edition1 (i + 1) (linesOf (count - i) (drop at body))))
 
 abbrev μ-loop : tie.MeasureT-loop
 μ-loop body count at₀ i₀ at i = count - i

@@ -1,124 +1,76 @@
--- `policy_parse::parse` meets its contract: each test decides one case of the definition, in its order. Assumes nothing.
-use Prim.Native.Nat.{_-_}
+-- `policy_parse::parse` meets its contract: a file that is taken is written if it fits, a refusal passed on. Assumes nothing.
 use native.Mathlib.Omega.{arith}
-use mathlib.Core.Path.{_≡_, sym, _∙_}
-use mathlib.Core.Bool.{true}
-use lib.ListN.{length, getD, take, drop}
-use borrow.Author.Tests.{not-true, not-false}
-use Rattle.policy_text.specs.Bytes.{lf, count, sameBytes}
-use Rattle.policy_text.specs.Format.{header, linesOf, rowsOf, parsePolicy}
-use Rattle.policy_parse.specs.Parsing.{badOf}
-use Rattle.policy_parse.specs.RowsLaws.{length-lines}
-use Rattle.policy_parse.specs.FileLaws.{not-header, not-ended, too-many, within-limit, refused-row, parsed-fits, parsed-short}
+use mathlib.Core.Path.{_≡_, sym, ap, _∙_}
+use mathlib.Core.List.{List}
+use Rattle.policy.specs.Policy.{PolicyRow}
+use Rattle.policy_text.specs.declared.Edition.{Edition}
+use Rattle.policy_text.specs.declared.Edition.the-variants.{One}
+use Rattle.policy_text.specs.declared.File.{File}
+use Rattle.policy_text.specs.declared.File.the-variants.{Rows, Refused}
+use Rattle.policy_text.specs.declared.Parsed.the-variants.{Rows as RoomRows}
+use Rattle.policy_text.specs.EditionsLaws.{only-one}
+use Rattle.policy_text.specs.Editions.{rules, Policy, rows, parsePolicy}
+use Rattle.policy_parse.specs.FileLaws.{FileIs, file-is, parsed-fits, parsed-short}
 use borrow.Author.Needs.{needs}
 use Rattle.policy_parse.proofs.parse.Statement.{statement}
 use Rattle.policy_parse.proofs.parse.Tie as tie
 
--- What is known of the file once each test has failed.
-headed : (c : tie.Else1) → sameBytes (take 9 (c .before .before .before .before .before .before .args .bytes .now)) header ≡ true
-headed c = sym (rw (c .before .before .before .first-nine .ensures) at (c .before .same .ensures)) ∙ not-false _ (c .if1 .left)
+-- What the file is.
+says : (c : tie.After-examine) (f : File) → c .examine .result ≡ f → FileIs (parsePolicy (c .before .before .before .args .limit) (c .before .before .before .args .bytes .now)) f
+says c f e = file-is _ f (sym e ∙ c .examine .ensures)
 
-ended : (c : tie.Else2) → let s = c .before .before .before .before .before .before .before .before .args .bytes .now in getD s (length s - 1) 0 ≡ lf
-ended c = sym (c .before .last .ensures) ∙ c .if2 .left
+one : {p : Policy} {e : Edition} {rs : List PolicyRow} → p ≡ rows (rules e rs) → p ≡ rows (rules One rs)
+one {p} {e} {rs} q = q ∙ ap (λ (o : Edition). rows (rules o rs)) (only-one e)
 
-lines : (c : tie.After-count) → c .count .result ≡ count lf (drop 9 (c .before .before .before .before .before .before .before .before .before .before .args .bytes .now))
-lines c = c .count .ensures ∙ rw (c .before .after-nine .ensures)
+examine-requires : tie.Need-examine-requires
+examine-requires c κs = search needs
 
-within : (c : tie.Else3) → let a = c .before .before .before .before .before .before .before .before .before .before .before .args in let b = drop 9 (a .bytes .now) in
-    parsePolicy (a .limit) (a .bytes .now) ≡ rowsOf 1 (linesOf (count lf b) b)
-within c = within-limit _ _ (headed (c .before .before .before .before .before)) (ended (c .before .before .before)) (rw (lines (c .before)) at (c .if3 .left))
-
-bad-row : (c : tie.After-first-bad) → let b = drop 9 (c .before .before .before .before .before .before .before .before .before .before .before .before .args .bytes .now) in
-    c .first-bad .result ≡ badOf (rowsOf 1 (linesOf (count lf b) b))
-bad-row c = c .first-bad .ensures ∙ rw (lines (c .before .before), c .before .before .before .after-nine .ensures)
-
-first-nine-requires : tie.Need-first-nine-requires
-first-nine-requires c κs = search needs
-
-slice-aggregate-same : tie.Need-slice-aggregate-same
-slice-aggregate-same c = search needs
-
-same-requires : tie.Need-same-requires
-same-requires c κs = search needs
+enum-known-file : tie.Need-enum-known-file
+enum-known-file c = search needs
 
 returns : tie.Need-returns
 returns c =
-    let h = sym (rw (c .before .before .before .first-nine .ensures) at (c .before .same .ensures)) ∙ not-true _ (c .if1 .taken) in
-    let a = c .before .before .before .before .before .before .args in
-    let p = not-header (a .limit) (a .bytes .now) h in
-    (rw p, rw p)
-
-last-requires : tie.Need-last-requires
-last-requires c κs = search needs
-
-returns-2 : tie.Need-returns-2
-returns-2 c =
-    let a = c .before .before .before .before .before .before .before .before .args in
-    let p = not-ended (a .limit) (a .bytes .now) (headed (c .before .before)) (rw (c .before .last .ensures) at (c .if2 .taken)) in
-    (rw p, rw p)
+    let x = c .before .before in
+    let s = x .before .before .before .before .before .args in
+    let h = says (x .before .before) (Rows (x .file .given .0 .0) (x .file .given .0 .1 .0)) (x .file .given .1) in
+    let q = parsed-short (s .limit) (s .bytes .now) (h .0) (one (h .1 .0)) (s .rows .now) (x .file .given .0 .1 .0) (h .1 .1) (omega arith) in
+    (sym (q .0), sym (q .1))
 
 after-nine-requires : tie.Need-after-nine-requires
 after-nine-requires c κs = search needs
 
-count-requires : tie.Need-count-requires
-count-requires c κs = search needs
-
-returns-3 : tie.Need-returns-3
-returns-3 c =
-    let a = c .before .before .before .before .before .before .before .before .before .before .before .args in
-    let p = too-many (a .limit) (a .bytes .now) (headed (c .before .before .before .before .before)) (ended (c .before .before .before)) (rw (lines (c .before)) at (c .if3 .taken)) in
-    (rw p, rw p)
-
-first-bad-requires : tie.Need-first-bad-requires
-first-bad-requires c κs = search needs
-
-returns-4 : tie.Need-returns-4
-returns-4 c =
-    let p = within (c .before .before) in
-    let q = refused-row _ _ (bad-row (c .before)) (c .if4 .taken) in
-    (rw (p, q), rw (p, q))
-
-returns-5 : tie.Need-returns-5
-returns-5 c =
-    let a = c .before .before .before .before .before .before .before .before .before .before .before .before .before .before .args in
-    let b = drop 9 (a .bytes .now) in
-    let p = within (c .before .before .before) in
-    let f = sym (bad-row (c .before .before)) ∙ c .before .if4 .left in
-    let q = parsed-short (linesOf (count lf b) b) (a .rows .now) f (omega (arith, lines (c .before .before .before .before), c .if5 .taken, length-lines (count lf b) b)) in
-    (rw (p, q .0), rw (p, q .1))
-
 put-rows-requires : tie.Need-put-rows-requires
 put-rows-requires c κs = search needs
+
+enum-known-file-2 : tie.Need-enum-known-file-2
+enum-known-file-2 c = search needs
 
 same-length : tie.Need-same-length
 same-length c = search needs
 
-returns-6 : tie.Need-returns-6
-returns-6 c =
-    let a = c .before .before .before .before .before .before .before .before .before .before .before .before .before .before .before .before .before .before .args in
-    let b = drop 9 (a .bytes .now) in
-    let n = lines (c .before .before .before .before .before .before .before .before) in
-    let p = within (c .before .before .before .before .before .before .before) in
-    let f = sym (bad-row (c .before .before .before .before .before .before)) ∙ c .before .before .before .before .before .if4 .left in
-    let q = parsed-fits (linesOf (count lf b) b) (a .rows .now) f (omega (arith, n, c .before .before .before .before .if5 .left, length-lines (count lf b) b)) in
-    (rw (p, q .0, n, length-lines), rw (p, q .1) (c .before .before .put-rows .ensures ∙ rw (n, c .before .before .before .before .before .before .before .before .before .after-nine .ensures)))
+returns-2 : tie.Need-returns-2
+returns-2 c =
+    let x = c .before .before .before .before .before .before .before in
+    let s = x .before .before .before .before .before .args in
+    let h = says (x .before .before) (Rows (x .file .given .0 .0) (x .file .given .0 .1 .0)) (x .file .given .1) in
+    let q = parsed-fits (s .limit) (s .bytes .now) (h .0) (one (h .1 .0)) (s .rows .now) (x .file .given .0 .1 .0) (h .1 .1) (omega arith) in
+    (ap (λ (o : Edition). RoomRows o (x .file .given .0 .1 .0)) (only-one (x .file .given .0 .0)) ∙ sym (q .0), c .before .before .put-rows .ensures ∙ rw (c .before .before .before .before .after-nine .ensures) (sym (q .1)))
+
+returns-3 : tie.Need-returns-3
+returns-3 c =
+    let p = says (c .before .before .before) (Refused (c .before .file2 .given .0 .0)) (c .before .file2 .given .1) in
+    (rw p, rw p)
 
 pub parse-spec : {M : Type 1} → statement M
 parse-spec =
     tie.close
     (tie.spec
-    first-nine-requires
-    slice-aggregate-same
-    same-requires
+    examine-requires
+    enum-known-file
     returns
-    last-requires
-    returns-2
     after-nine-requires
-    count-requires
-    returns-3
-    first-bad-requires
-    returns-4
-    returns-5
     put-rows-requires
+    enum-known-file-2
     same-length
-    returns-6)
+    returns-2
+    returns-3)

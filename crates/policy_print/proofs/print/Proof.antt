@@ -16,7 +16,7 @@ put-file-requires c κs = search needs
 returns : tie.Need-returns
 returns c =
     let a = c .before .before .before .before .before .before .args in
-    let q = printed-short (a .out .now) (printed (a .direction) (policyRows (a .rows .now))) _ (c .before .before .put-file .ensures .place) (c .if1 .taken) in
+    let q = printed-short (a .out .now) (printed (a .edition) (a .direction) (policyRows (a .rows .now))) _ (c .before .before .put-file .ensures .place) (c .if1 .taken) in
     (sym (q .0), sym (q .1))
 
 put-file-requires-2 : tie.Need-put-file-requires-2
@@ -28,7 +28,7 @@ same-length c = search needs
 returns-2 : tie.Need-returns-2
 returns-2 c =
     let a = c .before .before .before .before .before .before .before .before .before .before .args in
-    let q = printed-fits (a .out .now) (printed (a .direction) (policyRows (a .rows .now))) _ (c .before .before .before .before .before .before .put-file .ensures .place) (c .before .before .before .before .if1 .left) in
+    let q = printed-fits (a .out .now) (printed (a .edition) (a .direction) (policyRows (a .rows .now))) _ (c .before .before .before .before .before .before .put-file .ensures .place) (c .before .before .before .before .if1 .left) in
     (sym (q .0), c .before .before .put-file2 .ensures .bytes ∙ sym (q .1))
 
 pub print-spec : {M : Type 1} → statement M

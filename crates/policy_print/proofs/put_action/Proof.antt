@@ -3,7 +3,7 @@ use native.Mathlib.Omega.{arith}
 use mathlib.Core.Path.{_≡_, sym, _∙_}
 use Rattle.policy.specs.declared.Action.the-variants.{Discard, Bypass, Protect}
 use Rattle.policy.specs.Words.{actionOf}
-use Rattle.policy_text.specs.Print.{actionText}
+use Rattle.policy_text.specs.Edition1.{actionText}
 use Rattle.policy_print.specs.PrintingLaws.{put-then}
 use borrow.Author.Needs.{needs}
 use Rattle.policy_print.proofs.put_action.Statement.{statement}

@@ -4,7 +4,7 @@ use mathlib.Core.Path.{sym, _∙_}
 use lib.ListN.{length-append}
 use Rattle.selectors.specs.Range.{addressSize}
 use Rattle.selectors.specs.Ranges.{addressRange}
-use Rattle.policy_text.specs.Print.{addressText}
+use Rattle.policy_text.specs.Edition1.{addressText}
 use Rattle.policy_print.specs.PrintingLaws.{put-then, all-text, one-text, two-text, low-fits, address-text}
 use borrow.Author.Needs.{needs}
 use Rattle.policy_print.proofs.put_address_range.Statement.{statement}

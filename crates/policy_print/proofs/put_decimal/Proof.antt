@@ -1,5 +1,5 @@
 -- `policy_print::put_decimal` meets its contract. Assumes nothing.
-use Rattle.policy_text.specs.Print.{decimalText}
+use Rattle.policy_text.specs.Decimals.{decimalText}
 use borrow.Author.Needs.{needs}
 use Rattle.policy_print.proofs.put_decimal.Statement.{statement}
 use Rattle.policy_print.proofs.put_decimal.Tie as tie

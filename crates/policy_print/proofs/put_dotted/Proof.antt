@@ -1,7 +1,7 @@
 -- `policy_print::put_dotted` meets its contract: piece after piece. Assumes nothing.
 use native.Mathlib.Omega.{arith}
 use lib.ListN.{length-append}
-use Rattle.policy_text.specs.Print.{dotted}
+use Rattle.policy_text.specs.Edition1.{dotted}
 use Rattle.policy_print.specs.PrintingLaws.{put-then}
 use borrow.Author.Needs.{needs}
 use Rattle.policy_print.proofs.put_dotted.Statement.{statement}

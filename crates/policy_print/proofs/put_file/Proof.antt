@@ -1,33 +1,25 @@
--- `policy_print::put_file` meets its contract. Rows that fit in memory print to fewer than 2^64 bytes. Assumes nothing.
-use Prim.Native.Nat.{_/_}
-use native.Mathlib.Omega.{arith}
-use lib.ListN.{length}
-use Rattle.policy_text.specs.Print.{policyText}
-use Rattle.policy.specs.Words.{rowWords}
-use Rattle.policy_print.specs.PrintingLaws.{put-then, rows-most}
+-- `policy_print::put_file` meets its contract: there is one edition. Assumes nothing.
+use mathlib.Core.Path.{sym, subst}
+use denote.Ref.{now}
+use Rattle.policy.specs.Words.{policyRows}
+use Rattle.policy_text.specs.declared.Edition.{Edition}
+use Rattle.policy_text.specs.EditionsLaws.{only-one}
+use Rattle.policy_print.specs.Printing.{Put, printed}
 use borrow.Author.Needs.{needs}
 use Rattle.policy_print.proofs.put_file.Statement.{statement}
 use Rattle.policy_print.proofs.put_file.Tie as tie
 
-slice-aggregate-put-text : tie.Need-slice-aggregate-put-text
-slice-aggregate-put-text c = search needs
-
-put-text-requires : tie.Need-put-text-requires
-put-text-requires c κs = search needs
-
-put-rows-requires : tie.Need-put-rows-requires
-put-rows-requires c κs =
-    let s = c .before .before .before .before .before .before .before .before in
-    omega (arith, c .before .before .before .put-text .ensures .place, s .good, rows-most (s .args .direction) (s .args .rows .now) 0 (length (s .args .rows .now) / rowWords))
+put-edition1-requires : tie.Need-put-edition1-requires
+put-edition1-requires c κs = search needs
 
 same-length : tie.Need-same-length
 same-length c = search needs
 
 returns : tie.Need-returns
-unfolding policyText
-returns c = put-then (c .before .before .before .before .before .before .put-text .ensures) (c .before .before .put-rows .ensures)
+returns c =
+    let a = c .before .before .before .before .before .before .args in
+    let p = c .before .before .put-edition1 in
+    subst (λ (e : Edition). Put (now (a .out)) 0 (printed e (a .direction) (policyRows (now (a .rows)))) (p .last .0) (p .result)) (sym (only-one (a .edition))) (p .ensures)
 
 pub put-file-spec : {M : Type 1} → statement M
-put-file-spec =
-    tie.close
-    (tie.spec slice-aggregate-put-text put-text-requires put-rows-requires same-length returns)
+put-file-spec = tie.close (tie.spec put-edition1-requires same-length returns)

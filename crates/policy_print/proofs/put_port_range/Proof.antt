@@ -4,7 +4,7 @@ use mathlib.Core.Path.{sym, _∙_}
 use lib.ListN.{length-append}
 use Rattle.selectors.specs.Range.{portSize}
 use Rattle.selectors.specs.Ranges.{portRange}
-use Rattle.policy_text.specs.Print.{portText}
+use Rattle.policy_text.specs.Edition1.{portText}
 use Rattle.policy_print.specs.PrintingLaws.{put-then, all-text, one-text, two-text, low-fits}
 use borrow.Author.Needs.{needs}
 use Rattle.policy_print.proofs.put_port_range.Statement.{statement}

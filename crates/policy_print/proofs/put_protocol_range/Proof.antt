@@ -4,7 +4,7 @@ use mathlib.Core.Path.{sym, _∙_}
 use lib.ListN.{length-append}
 use Rattle.selectors.specs.Range.{protocolSize}
 use Rattle.selectors.specs.Ranges.{protocolRange}
-use Rattle.policy_text.specs.Print.{protocolText}
+use Rattle.policy_text.specs.Edition1.{protocolText}
 use Rattle.policy_print.specs.PrintingLaws.{put-then, all-text, one-text, two-text, low-fits, protocol-text}
 use borrow.Author.Needs.{needs}
 use Rattle.policy_print.proofs.put_protocol_range.Statement.{statement}

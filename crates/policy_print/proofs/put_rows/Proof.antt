@@ -7,6 +7,7 @@ use mathlib.Core.List.{map}
 use lib.ListN.{length, length-append}
 use lib.Seq.{sets}
 use Rattle.policy.specs.Words.{rowsFrom, policyRows}
+use Rattle.policy_text.specs.Edition1.{edition1}
 use Rattle.policy_text.specs.Print.{rowsText, toward}
 use Rattle.policy_print.specs.PrintingLaws.{put-length, put-rest, rows-more, rows-none}
 use borrow.Author.Needs.{needs}
@@ -17,8 +18,8 @@ abbrev Inv-loop : tie.InvT-loop
 Inv-loop out₀ at rows direction count next₀ i₀ out next i =
     (i ≤ count)
     × (length out ≡ length out₀)
-    × (at + length (rowsText (map (toward direction) (policyRows rows))) ≡ next + length (rowsText (map (toward direction) (rowsFrom rows i (count - i)))))
-    × (sets out₀ at (rowsText (map (toward direction) (policyRows rows))) ≡ sets out next (rowsText (map (toward direction) (rowsFrom rows i (count - i)))))
+    × (at + length (rowsText edition1 (map (toward direction) (policyRows rows))) ≡ next + length (rowsText edition1 (map (toward direction) (rowsFrom rows i (count - i)))))
+    × (sets out₀ at (rowsText edition1 (map (toward direction) (policyRows rows))) ≡ sets out next (rowsText edition1 (map (toward direction) (rowsFrom rows i (count - i)))))
 
 abbrev μ-loop : tie.MeasureT-loop
 μ-loop out₀ at rows direction count next₀ i₀ out next i = count - i

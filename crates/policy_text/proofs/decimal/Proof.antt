@@ -4,7 +4,7 @@ use Prim.Native.Nat.{_*_, _≤_, _+_, _-_}
 use native.Mathlib.Omega.{arith}
 use mathlib.Core.Path.{_≡_, sym, _∙_}
 use borrow.Author.Tests.{not-true, not-false}
-use Rattle.policy_text.specs.Format.{digits, value}
+use Rattle.policy_text.specs.Decimals.{digits, value}
 use Rattle.policy_text.specs.FormatLaws.{digits-next, digits-below, digits-above, digits-ended, value-next, value-ended, value-grows, decimal-padded, decimal-other, decimal-above, decimal-is}
 use borrow.Author.Needs.{needs}
 use Rattle.policy_text.proofs.decimal.Statement.{statement}

@@ -4,7 +4,7 @@ use mathlib.Core.Bool.{Bool, cond}
 use denote.Ref.{now}
 use borrow.Author.Needs.{needs}
 use Rattle.policy.specs.Words.{policyRows}
-use Rattle.policy_text.specs.Format.{rows}
+use Rattle.policy_text.specs.Editions.{rules, rows}
 use Rattle.same_policy.specs.declared.Compared.the-variants.{Same, Different}
 use Rattle.same_policy.specs.Same.{compared}
 use Rattle.same_policy.specs.SameLaws.{by-agreement}
@@ -13,8 +13,8 @@ use Rattle.same_policy.proofs.compare_rows.Tie as tie
 
 -- The answer, by what `same` says.
 answer : (c : tie.After-same) (b : Bool) → c .same .result ≡ b
-    → cond b Same Different ≡ compared (c .before .before .before .args .direction) (rows (policyRows (now (c .before .before .before .args .first)))) (rows (policyRows (now (c .before .before .before .args .second))))
-answer c b e = ap (λ (t : Bool). cond t Same Different) (sym e) ∙ by-agreement _ _ _ (c .same .result) (c .same .ensures)
+    → cond b Same Different ≡ compared (c .before .before .before .args .direction) (rows (rules (c .before .before .before .args .edition) (policyRows (now (c .before .before .before .args .first))))) (rows (rules (c .before .before .before .args .edition) (policyRows (now (c .before .before .before .args .second)))))
+answer c b e = ap (λ (t : Bool). cond t Same Different) (sym e) ∙ by-agreement _ (c .before .before .before .args .edition) _ _ (c .same .result) (c .same .ensures)
 
 same-requires : tie.Need-same-requires
 same-requires c κs = search needs

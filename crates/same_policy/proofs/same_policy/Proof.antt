@@ -1,44 +1,41 @@
 -- `same_policy::same_policy` meets its contract: the rows of a first file that is taken are compared with the second, a refusal passed on. Assumes nothing.
 use Prim.Native.Nat.{ℕ, _*_, _≤_}
 use native.Mathlib.Omega.{arith}
-use mathlib.Core.Path.{_≡_, sym, ap, subst, _∙_}
+use mathlib.Core.Path.{_≡_, refl, sym, ap, subst, _∙_}
 use mathlib.Core.List.{List}
 use lib.ListN.{length, length-take}
 use denote.Ref.{now}
-use borrow.Author.Needs.{needs}
-use Rattle.policy.specs.Words.{rowLimit}
-use Rattle.policy_text.specs.Format.{Policy, parsePolicy}
-use Rattle.policy_text.specs.declared.Parsed.{Parsed}
-use Rattle.policy_text.specs.declared.Parsed.the-variants.{Rows, NotHeader, NotEnded, TooMany, BadRow, NoRoom}
+use Rattle.policy.specs.Words.{policyRows, rowLimit}
+use Rattle.policy_text.specs.declared.File.{File}
+use Rattle.policy_text.specs.declared.File.the-variants.{Rows, Refused}
 use Rattle.policy_parse.specs.Taken.{Taken, Told, told}
+use Rattle.policy_text.specs.Editions.{Policy, parsePolicy}
 use Rattle.same_policy.specs.Same.{compared}
+use borrow.Author.Needs.{needs}
 use Rattle.same_policy.proofs.same_policy.Statement.{statement}
 use Rattle.same_policy.proofs.same_policy.Tie as tie
 
 -- What the parser's answer says of the file.
-says : (c : tie.After-parse) (p : Parsed) → c .parse .result ≡ p → Told rowLimit (now (c .before .before .before .before .args .first)) (c .parse .last .1 .1 .0) p
-says c p e =
+says : (c : tie.After-parse-policy) (f : File) → c .parse-policy .result ≡ f → Told rowLimit (now (c .before .before .before .before .args .first)) (c .parse-policy .last .1 .0) f
+says c f e =
     let s = now (c .before .before .before .before .args .first) in
-    subst (λ (room : List ℕ). Told rowLimit s room p) (sym (c .parse .ensures .1)) (told rowLimit s _ (search needs) p (sym e ∙ c .parse .ensures .0))
+    subst (λ (room : List ℕ). Told rowLimit s room f) (sym (c .parse-policy .ensures .1)) (told rowLimit s _ f (sym e ∙ c .parse-policy .ensures .0))
 
-got : (c : tie.After-parsed) → Taken rowLimit (now (c .before .before .before .before .before .before .before .args .first)) (c .parsed .given .0 .0) (c .before .before .before .parse .last .1 .1 .0)
+got : (c : tie.After-file) → Taken rowLimit (now (c .before .before .before .before .before .before .args .first)) (c .file .given .0 .0) (c .file .given .0 .1 .0) (c .before .before .parse-policy .last .1 .0)
 unfolding Told
-got c = says (c .before .before .before) (Rows (c .parsed .given .0 .0)) (c .parsed .given .1)
+got c = says (c .before .before) (Rows (c .file .given .0 .0) (c .file .given .0 .1 .0)) (c .file .given .1)
 
-fits : (c : tie.After-known-told) → c .before .parsed .given .0 .0 * 22 ≤ length (c .before .before .before .before .parse .last .1 .1 .0)
+fits : (c : tie.After-known-told) → c .before .file .given .0 .1 .0 * 22 ≤ length (c .before .before .before .parse-policy .last .1 .0)
 fits c = got (c .before) .words-fit
 
-slice-aggregate-parse : tie.Need-slice-aggregate-parse
-slice-aggregate-parse c = search needs
+parse-policy-requires : tie.Need-parse-policy-requires
+parse-policy-requires c κs = search needs
 
-parse-requires : tie.Need-parse-requires
-parse-requires c κs = search needs
-
-enum-known-parsed : tie.Need-enum-known-parsed
-enum-known-parsed c = search needs
+enum-known-file : tie.Need-enum-known-file
+enum-known-file c = search needs
 
 mul-room : tie.Need-mul-room
-mul-room c = let h = fits c in search needs
+mul-room c = let h = got (c .before) .few in search needs
 
 array-share-prefix-room : tie.Need-array-share-prefix-room
 array-share-prefix-room c = fits c
@@ -49,66 +46,29 @@ slice-aggregate-compare-file c = let h = fits (c .before) in simp length-take (o
 compare-file-requires : tie.Need-compare-file-requires
 compare-file-requires c κs = search needs
 
-enum-told : tie.Need-enum-told
-enum-told c = search needs
-
-enum-told-2 : tie.Need-enum-told-2
-enum-told-2 c = search needs
-
-enum-told-3 : tie.Need-enum-told-3
-enum-told-3 c = search needs
-
-enum-known-parsed-2 : tie.Need-enum-known-parsed-2
-enum-known-parsed-2 c = search needs
-
-enum-told-4 : tie.Need-enum-told-4
-enum-told-4 c = search needs
+enum-known-file-2 : tie.Need-enum-known-file-2
+enum-known-file-2 c = search needs
 
 returns : tie.Need-returns
 returns c =
     let k = c .before .before .before in
-    let s = k .before .before .before .before .before .before .before in
+    let s = k .before .before .before .before .before .before in
     c .compare-file .ensures ∙ ap (λ (f : Policy). compared (s .args .direction) f (parsePolicy rowLimit (now (s .args .second)))) (sym (got k .is))
 
 returns-2 : tie.Need-returns-2
 unfolding Told
-returns-2 c = rw (says (c .before .before .before) NotHeader (c .enum-told .given .1))
-
-returns-3 : tie.Need-returns-3
-unfolding Told
-returns-3 c = rw (says (c .before .before .before) NotEnded (c .enum-told2 .given .1))
-
-returns-4 : tie.Need-returns-4
-unfolding Told
-returns-4 c = rw (says (c .before .before .before) TooMany (c .enum-told3 .given .1))
-
-returns-5 : tie.Need-returns-5
-unfolding Told
-returns-5 c = rw (says (c .before .before .before .before) (BadRow (c .before .parsed2 .given .0 .0)) (c .before .parsed2 .given .1))
-
-returns-6 : tie.Need-returns-6
-unfolding Told
-returns-6 c = absurd (says (c .before .before .before) NoRoom (c .enum-told4 .given .1))
+returns-2 c = rw (says (c .before .before .before) (Refused (c .before .file2 .given .0 .0)) (c .before .file2 .given .1))
 
 pub same-policy-spec : {M : Type 1} → statement M
 same-policy-spec =
     tie.close
     (tie.spec
-    slice-aggregate-parse
-    parse-requires
-    enum-known-parsed
+    parse-policy-requires
+    enum-known-file
     mul-room
     array-share-prefix-room
     slice-aggregate-compare-file
     compare-file-requires
-    enum-told
-    enum-told-2
-    enum-told-3
-    enum-known-parsed-2
-    enum-told-4
+    enum-known-file-2
     returns
-    returns-2
-    returns-3
-    returns-4
-    returns-5
-    returns-6)
+    returns-2)
