@@ -13,7 +13,9 @@ use lib.ListN.{length, getD, set, take}
 use lib.Seq.{getD-set-same, getD-set-other, take-suc}
 use borrow.Author.Tests.{lt-ltb, le-ltb, eq-eqb, ne-eqb}
 use Rattle.selectors.specs.Range.{Range, contains, holds}
-use Rattle.selectors.specs.Words.{fieldCount}
+use Rattle.selectors.specs.Ranges.{endsRange}
+use Rattle.selectors.specs.Words.{fieldCount, endsAt, rangeAt}
+use Rattle.selectors.specs.declared.Ends.{Ends}
 use Rattle.normal_form.specs.Search.{Row, find}
 use Rattle.policy.specs.Words.{rowWords, rowLimit}
 use Rattle.cover.specs.Boxes.{rangesWord, rowOf, tableOf, codeHolds}
@@ -144,8 +146,9 @@ module _ (ws : List ℕ) (s : Bool) (p : ℕ → Bool) (x e : ℕ) (q : rowOf e 
       by false = refl
 
 -- The sides of a row at a cut, from what was asked of its range.
-pub sides-read : (r : Range) (one other : ℕ) (a b : Bool) → contains r one ≡ a → contains r other ≡ b → cond a (cond b 3 1) (cond b 2 0) ≡ sidesOf r one other
-sides-read r one other a b s t = rw (s, t)
+pub sides-read : (ws : List ℕ) (at : ℕ) (e : Ends) (one other : ℕ) (a b : Bool) → e ≡ endsAt ws at → contains (endsRange e) one ≡ a → contains (endsRange e) other ≡ b
+    → cond a (cond b 3 1) (cond b 2 0) ≡ sidesOf (rangeAt ws at) one other
+sides-read ws at e one other a b p s t = rw (rw p at s, rw p at t)
 
 pub sides-small : (r : Range) (one other : ℕ) → sidesOf r one other < 8
 sides-small r one other = by (contains r one) (contains r other)

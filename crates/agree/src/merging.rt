@@ -16,9 +16,10 @@ use cover::MOST;
 use cover::wide;
 use policy::LIMIT;
 use policy::ROW_WORDS;
+use selectors::AddressRange;
 use selectors::Value;
 use selectors::words::RANGE_WORDS;
-use selectors::words::range_holds;
+use selectors::words::ends_at;
 
 // Whether the first `total` places of a list are those of rows that are there.
 pub fn there(rows: &[u64], list: &[u16; LIMIT], total: usize) -> bool
@@ -46,13 +47,17 @@ fn sides_of(rows: &[u64], row: u16, field: usize, one: Value, other: Value) -> u
     ensures { λ r. ⌜ r ≡ sidesOf (rangeOf (now (rows .entry)) row field) (number one) (number other) ⌝ }
 {
     let at = wide(row) * ROW_WORDS + HEAD_WORDS + RANGE_WORDS * field;
-    if range_holds(rows, at, one) {
-        if range_holds(rows, at, other) {
+    let ends = ends_at(rows, at);
+    let low = ends.low;
+    let high = ends.high;
+    let range = AddressRange { low, high };
+    if range.holds(one) {
+        if range.holds(other) {
             return 3;
         }
         return 1;
     }
-    if range_holds(rows, at, other) {
+    if range.holds(other) {
         return 2;
     }
     0

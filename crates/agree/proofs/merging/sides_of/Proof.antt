@@ -21,26 +21,37 @@ mul-at-2 c = search needs
 add-at-2 : tie.Need-add-at-2
 add-at-2 c = search needs
 
-range-holds-requires : tie.Need-range-holds-requires
-range-holds-requires c κs = search needs
+ends-at-requires : tie.Need-ends-at-requires
+ends-at-requires c κs = search needs
 
-range-holds-requires-2 : tie.Need-range-holds-requires-2
-range-holds-requires-2 c κs = search needs
+holds-requires : tie.Need-holds-requires
+holds-requires c κs = search needs
+
+holds-requires-2 : tie.Need-holds-requires-2
+holds-requires-2 c κs = search needs
 
 returns : tie.Need-returns
-returns c = rw (← (c .before .before .before .before .wide .ensures)) (sides-read _ _ _ true true (sym (c .before .before .before .range-holds .ensures) ∙ c .before .before .if1 .taken) (sym (c .before .range-holds2 .ensures) ∙ c .if2 .taken))
+returns c = let h = c .before .before .before in
+    let e = h .before .before .before in
+    rw (← (e .before .wide .ensures)) (sides-read _ _ _ _ _ true true (e .ends-at .ensures) (sym (h .holds .ensures) ∙ c .before .before .if1 .taken) (sym (c .before .holds2 .ensures) ∙ c .if2 .taken))
 
 returns-2 : tie.Need-returns-2
-returns-2 c = rw (← (c .before .before .before .before .wide .ensures)) (sides-read _ _ _ true false (sym (c .before .before .before .range-holds .ensures) ∙ c .before .before .if1 .taken) (sym (c .before .range-holds2 .ensures) ∙ c .if2 .left))
+returns-2 c = let h = c .before .before .before in
+    let e = h .before .before .before in
+    rw (← (e .before .wide .ensures)) (sides-read _ _ _ _ _ true false (e .ends-at .ensures) (sym (h .holds .ensures) ∙ c .before .before .if1 .taken) (sym (c .before .holds2 .ensures) ∙ c .if2 .left))
 
-range-holds-requires-3 : tie.Need-range-holds-requires-3
-range-holds-requires-3 c κs = search needs
+holds-requires-3 : tie.Need-holds-requires-3
+holds-requires-3 c κs = search needs
 
 returns-3 : tie.Need-returns-3
-returns-3 c = rw (← (c .before .before .before .before .wide .ensures)) (sides-read _ _ _ false true (sym (c .before .before .before .range-holds .ensures) ∙ c .before .before .if1 .left) (sym (c .before .range-holds3 .ensures) ∙ c .if3 .taken))
+returns-3 c = let h = c .before .before .before in
+    let e = h .before .before .before in
+    rw (← (e .before .wide .ensures)) (sides-read _ _ _ _ _ false true (e .ends-at .ensures) (sym (h .holds .ensures) ∙ c .before .before .if1 .left) (sym (c .before .holds3 .ensures) ∙ c .if3 .taken))
 
 returns-4 : tie.Need-returns-4
-returns-4 c = rw (← (c .before .before .before .before .wide .ensures)) (sides-read _ _ _ false false (sym (c .before .before .before .range-holds .ensures) ∙ c .before .before .if1 .left) (sym (c .before .range-holds3 .ensures) ∙ c .if3 .left))
+returns-4 c = let h = c .before .before .before in
+    let e = h .before .before .before in
+    rw (← (e .before .wide .ensures)) (sides-read _ _ _ _ _ false false (e .ends-at .ensures) (sym (h .holds .ensures) ∙ c .before .before .if1 .left) (sym (c .before .holds3 .ensures) ∙ c .if3 .left))
 
 pub sides-of-spec : {M : Type 1} → statement M
 sides-of-spec =
@@ -51,10 +62,11 @@ sides-of-spec =
     add-at
     mul-at-2
     add-at-2
-    range-holds-requires
-    range-holds-requires-2
+    ends-at-requires
+    holds-requires
+    holds-requires-2
     returns
     returns-2
-    range-holds-requires-3
+    holds-requires-3
     returns-3
     returns-4)
