@@ -1,16 +1,18 @@
--- Laws of ranges and values as words: the ranges from a field on, the same words at another place, a value that was written. Assumes nothing.
+-- Laws of ranges and values as words: the ranges from a field on, the same words at another place, a value and a range that were written.
+-- Assumes nothing.
 use Prim.Native.Nat.{ℕ, zero, suc, _+_, _*_, _/_, _%_, _^_, _≤_, _<_}
 use native.Mathlib.Omega.{arith}
+use native.Mathlib.Nat.{zero-add}
 use native.Mathlib.Numerals.{add-one}
 use mathlib.Core.Path.{_≡_, refl, sym, ap, _∙_}
 use mathlib.Core.List.{List, _∷_, _++_}
 use mathlib.Core.Logic.{_⊎_, inl, inr, ⊎-elim}
-use lib.ListN.{length, getD, set, length-set}
-use lib.Seq.{sets, getD-set-same, getD-set-other}
+use lib.ListN.{length, getD, set, take, drop, length-set}
+use lib.Seq.{sets, length-sets, getD-set-same, getD-set-other, getD-take, getD-drop}
 use Rattle.selectors.specs.Range.{Range, range}
 use Rattle.selectors.specs.Value.{number}
-use Rattle.selectors.specs.Words.{valueWords, rangeWords, valueAt, rangeAt, rangesFrom, wordsOfValue}
-use Rattle.selectors.specs.WordsLaws.{value-written}
+use Rattle.selectors.specs.Words.{valueWords, rangeWords, valueAt, endsAt, rangeAt, rangesFrom, wordsOfValue, wordsOfRange}
+use Rattle.selectors.specs.WordsLaws.{range-put, value-written}
 
 -- n ranges from the field f on: how many they are, in two parts, and the range of one field among them.
 module _ (ws : List ℕ) (at : ℕ) where
@@ -64,6 +66,15 @@ module _ (ws ws′ : List ℕ) (at at′ : ℕ) where
   ranges-moved f (suc n) s =
       rw (range-moved f (λ k p q. s k p (omega arith)), ranges-moved (f + 1) n (λ k p q. s k (omega arith) (omega arith)))
 
+-- A range whose words are lent as a part of their own.
+pub ends-lent : (ws : List ℕ) (at n : ℕ) → rangeWords ≤ n → endsAt (take n (drop at ws)) 0 ≡ endsAt ws at
+ends-lent ws at n h =
+    let same : (k : ℕ) → k < rangeWords → getD (take n (drop at ws)) (0 + k) 0 ≡ getD ws (at + k) 0 =
+    λ k g. rw zero-add (getD-take n (drop at ws) k 0 (omega arith) ∙ getD-drop at ws k 0) in
+    let low = end-moved ws (take n (drop at ws)) at 0 0 at 0 (omega arith) (omega arith) (same 0 (omega arith)) (same 1 (omega arith)) in
+    let high = end-moved ws (take n (drop at ws)) at 0 2 (at + 2) 2 (omega arith) (omega arith) (same 2 (omega arith)) (same 3 (omega arith)) in
+    rw (low, high)
+
 -- A value that was written, and the other words and values.
 module _ (ws : List ℕ) (at n : ℕ) where
   abbrev pub written : List ℕ
@@ -89,3 +100,23 @@ module _ (ws : List ℕ) (at n : ℕ) where
       value-moved ws written j j
       (word-other j (⊎-elim (λ p. inl (omega arith)) (λ p. inr (omega arith)) o))
       (word-other (j + 1) (⊎-elim (λ p. inl (omega arith)) (λ p. inr (omega arith)) o))
+
+-- A range that was written, and the other words.
+module _ (ws : List ℕ) (at m n : ℕ) where
+  abbrev pub writtenRange : List ℕ
+  writtenRange = sets ws at (wordsOfRange (range m n))
+
+  in-two : writtenRange ≡ written (written ws at m) (at + valueWords) n
+  in-two = sym (range-put ws at m n)
+
+  pub range-words : (j : ℕ) → (j < at) ⊎ (at + rangeWords ≤ j) → getD writtenRange j 0 ≡ getD ws j 0
+  range-words j o =
+      rw in-two
+      (word-other (written ws at m) (at + 2) n j (⊎-elim (λ p. inl (omega arith)) (λ p. inr (omega arith)) o)
+      ∙ word-other ws at m j (⊎-elim (λ p. inl p) (λ p. inr (omega arith)) o))
+
+  pub low-own : at + rangeWords ≤ length ws → number (valueAt writtenRange at) ≡ m
+  low-own h = rw in-two (ap number (value-other (written ws at m) (at + 2) n at (inl (omega arith))) ∙ value-own ws at m (omega arith))
+
+  pub high-own : at + rangeWords ≤ length ws → number (valueAt writtenRange (at + valueWords)) ≡ n
+  high-own h = rw in-two (value-own (written ws at m) (at + 2) n (rw (length-sets ws at (wordsOfValue m)) (omega arith)))
