@@ -1,7 +1,6 @@
 -- Laws of the rows that may part two values of a field: how they are listed, and why they are enough. Assumes nothing.
 use Prim.Native.Nat.{ℕ, zero, suc, _+_, _*_, _≤_, _<_}
 use native.Mathlib.Omega.{arith}
-use native.Mathlib.Nat.{add-zero}
 use mathlib.Core.Path.{_≡_, refl, sym, _∙_}
 use mathlib.Core.Bool.{Bool, true, false, not, cond}
 use mathlib.Core.List.{List, [], _∷_, map}
@@ -12,11 +11,12 @@ use lib.Seq.{getD-set-same, getD-set-other, length-take-le, getD-take}
 use borrow.Author.Count.{below-more}
 use borrow.Author.Tests.{eqb-true}
 use Rattle.selectors.specs.Range.{contains, holds}
-use Rattle.selectors.specs.Words.{rangeAt}
+use Rattle.selectors.specs.HeldLaws.{ranges-next}
+use Rattle.selectors.specs.Words.{fieldCount}
 use Rattle.normal_form.specs.Search.{Row, find}
-use Rattle.policy.specs.Words.{rowWords, rowLimit}
-use Rattle.cover.specs.Boxes.{rangesBehind, RowsApart}
-use Rattle.agree.specs.Sides.{rowBehind, rangeOf, Takes, Cutting}
+use Rattle.policy.specs.Words.{rowLimit}
+use Rattle.cover.specs.Boxes.{rangesWord, RowsApart}
+use Rattle.agree.specs.Sides.{actionIn, doesAct, rowBehind, rangeOf, Takes, Early, Cutting}
 use Rattle.agree.specs.TakesLaws.{takes-each}
 
 -- The first of two rows that hold values or not, with what is found behind them.
@@ -63,8 +63,8 @@ module _ (g : ℕ → Row ℕ) where
 module _ (ws : List ℕ) (f : ℕ) (xs : List ℕ) where
   abbrev Spare : ℕ → Type 0
   Spare x =
-      (getD ws (x * rowWords + 1) 0 ≡ 0)
-      × ((j : ℕ) → j < length xs → not (eqb (getD ws (getD xs j 0 * rowWords + 1) 0) 0) ≡ true → RowsApart ws x (getD xs j 0) f)
+      (actionIn ws x ≡ 0)
+      × ((j : ℕ) → j < length xs → doesAct ws (getD xs j 0) ≡ true → RowsApart ws x (getD xs j 0) f)
 
   abbrev Treated : List ℕ → List ℕ → Type 0
   Treated us vs =
@@ -73,9 +73,9 @@ module _ (ws : List ℕ) (f : ℕ) (xs : List ℕ) where
 
   spare-quiet : (us vs : List ℕ) → Treated us vs → (x : ℕ) → Spare x → holds (rowBehind ws f x .ranges) us ≡ true → Quiet (rowBehind ws f) vs xs
   unfolding Quiet RowsApart
-  spare-quiet us vs t x s h j l m = by (eqb (getD ws (getD xs j 0 * rowWords + 1) 0) 0) refl
+  spare-quiet us vs t x s h j l m = by (eqb (actionIn ws (getD xs j 0)) 0) refl
     where
-      by : (b : Bool) → eqb (getD ws (getD xs j 0 * rowWords + 1) 0) 0 ≡ b → getD ws (getD xs j 0 * rowWords + 1) 0 ≡ 0
+      by : (b : Bool) → eqb (actionIn ws (getD xs j 0)) 0 ≡ b → actionIn ws (getD xs j 0) ≡ 0
       by true e = eqb-true _ _ e
       by false e = ⊎-elim (λ q. absurd (s .1 j l (rw e) us h (q ∙ m))) (λ w. w .0) (t j l)
 
@@ -86,24 +86,10 @@ module _ (ws : List ℕ) (f : ℕ) (xs : List ℕ) where
       (λ j l. ⊎-elim (λ e. inl e) (λ s. inr (s .0, (spare-quiet us vs t _ s, spare-quiet vs us t′ _ s))) (t j l))
 
 -- A row treats values alike that its range of the first field does.
-behind-split : (ws : List ℕ) (at f : ℕ) → f < 5 → rangesBehind ws at f ≡ rangeAt ws (at + 4 * f) ∷ rangesBehind ws at (suc f)
-behind-split ws at zero h = simp add-zero
-behind-split ws at (suc zero) h = refl
-behind-split ws at (suc (suc zero)) h = refl
-behind-split ws at (suc (suc (suc zero))) h = refl
-behind-split ws at (suc (suc (suc (suc zero)))) h = refl
-behind-split ws at (suc (suc (suc (suc (suc f))))) h = absurd (omega arith)
-
-held-like : (ws : List ℕ) (x f u v : ℕ) (us : List ℕ) → f < 5 → contains (rangeOf ws x f) u ≡ contains (rangeOf ws x f) v
+held-like : (ws : List ℕ) (x f u v : ℕ) (us : List ℕ) → f < fieldCount → contains (rangeOf ws x f) u ≡ contains (rangeOf ws x f) v
     → holds (rowBehind ws f x .ranges) (u ∷ us) ≡ holds (rowBehind ws f x .ranges) (v ∷ us)
 unfolding holds
-held-like ws x f u v us h e = rw (behind-split ws (x * rowWords + 2) f h, e)
-
--- A number is one of the first n of a list.
-pub record Early (xs : List ℕ) (n x : ℕ) : Type 0 where
-  pub place : ℕ
-  pub below : place < n
-  pub same : x ≡ getD xs place 0
+held-like ws x f u v us h e = rw (ranges-next ws (rangesWord x) f fieldCount h, e)
 
 -- The first n numbers of a list are some of the first i of another, and of these are all that are not spare.
 pub record Chosen (spare : ℕ → Type 0) (list : List ℕ) (i : ℕ) (cuts : List ℕ) (n : ℕ) : Type 0 where
@@ -159,10 +145,10 @@ module _ (spare : ℕ → Type 0) (list : List ℕ) where
 module _ (ws : List ℕ) (f : ℕ) (actors : List ℕ) (count : ℕ) where
   -- A row that discards and is apart from the listed ones.
   abbrev pub Idle : ℕ → Type 0
-  Idle x = (getD ws (x * rowWords + 1) 0 ≡ 0) × ((k : ℕ) → k < count → RowsApart ws x (getD actors k 0) f)
+  Idle x = (actionIn ws x ≡ 0) × ((k : ℕ) → k < count → RowsApart ws x (getD actors k 0) f)
 
-  pub cutting-of : (list : List ℕ) (total : ℕ) (cuts : List ℕ) (n : ℕ) → f < 5 → total ≤ length list
-      → Takes (λ i. not (eqb (getD ws (i * rowWords + 1) 0) 0)) (take total list) actors count → Chosen Idle list total cuts n
+  pub cutting-of : (list : List ℕ) (total : ℕ) (cuts : List ℕ) (n : ℕ) → f < fieldCount → total ≤ length list
+      → Takes (λ i. doesAct ws i) (take total list) actors count → Chosen Idle list total cuts n
       → Cutting ws (take total list) f cuts n
   cutting-of list total cuts n h g t c =
       let size = length-take-le total list g in

@@ -1,6 +1,6 @@
 -- Laws of entries: the rows of a list of entries on each side, what a search of these finds, and how a list of entries grows.
 -- Assumes nothing.
-use Prim.Native.Nat.{ℕ, zero, suc, _+_, _*_, _/_, _%_, _≤_, _<_}
+use Prim.Native.Nat.{ℕ, zero, suc, _+_, _-_, _*_, _/_, _%_, _≤_, _<_}
 use native.Mathlib.Omega.{arith}
 use native.Mathlib.Nat.{add-zero, add-assoc}
 use native.Mathlib.Numerals.{add-one}
@@ -8,42 +8,30 @@ use mathlib.Core.Path.{_≡_, refl, sym, _∙_, ap}
 use mathlib.Core.Bool.{Bool, true, false, cond}
 use mathlib.Core.List.{List, [], _∷_, _++_, map, append-nil}
 use mathlib.Core.Logic.{_⊎_, inl, inr, ⊎-elim}
-use lib.Dec.{lit<, lit≤}
+use lib.Dec.{lit<}
 use lib.ListN.{length, getD, set, take}
 use lib.Seq.{getD-set-same, getD-set-other, take-suc}
 use borrow.Author.Tests.{lt-ltb, le-ltb, eq-eqb, ne-eqb}
 use Rattle.selectors.specs.Range.{Range, contains, holds}
-use Rattle.selectors.specs.Ranges.{fromTo}
-use Rattle.selectors.specs.Words.{valueAt, rangeAt}
-use Rattle.selectors.specs.declared.Value.{Value}
+use Rattle.selectors.specs.Ranges.{endsRange}
+use Rattle.selectors.specs.Words.{fieldCount, endsAt, rangeAt}
+use Rattle.selectors.specs.declared.Ends.{Ends}
 use Rattle.normal_form.specs.Search.{Row, find}
 use Rattle.policy.specs.Words.{rowWords, rowLimit}
-use Rattle.cover.specs.Boxes.{rowOf, tableOf, codeHolds}
+use Rattle.cover.specs.Boxes.{rangesWord, rowOf, tableOf, codeHolds}
+use Rattle.cover.specs.RangesLaws.{ranges-moved}
 use Rattle.agree.specs.Sides.{rowBehind, Alike, those, onSide, codeAction, Sides, sides, onAt, actionAt, holdsAt, on, firstOf, sideAction, Agreed, sidesOf, sideRows, SideRows, Next}
 
 -- A row from any field on is what its words from the action on are.
-module _ (first second : List ℕ) (a b : ℕ)
-    (same : (k : ℕ) → k < rowWords → 1 ≤ k → getD first (a * rowWords + k) 0 ≡ getD second (b * rowWords + k) 0) where
-  value-same : (k : ℕ) → 1 ≤ k → k + 1 < rowWords → valueAt first (a * rowWords + k) ≡ valueAt second (b * rowWords + k)
-  unfolding valueAt
-  value-same k g h = rw (add-assoc (a * rowWords) k 1, same k (omega arith) g, same (k + 1) h (omega arith), add-assoc (b * rowWords) k 1)
-
-  pub row-same : (f : ℕ) → rowBehind first f a ≡ rowBehind second f b
-  row-same f =
-      simp add-assoc
-      (rw (
-        same 1 (lit< tt) (lit≤ tt),
-        value-same 2 (lit≤ tt) (lit< tt),
-        value-same 4 (lit≤ tt) (lit< tt),
-        value-same 6 (lit≤ tt) (lit< tt),
-        value-same 8 (lit≤ tt) (lit< tt),
-        value-same 10 (lit≤ tt) (lit< tt),
-        value-same 12 (lit≤ tt) (lit< tt),
-        value-same 14 (lit≤ tt) (lit< tt),
-        value-same 16 (lit≤ tt) (lit< tt),
-        value-same 18 (lit≤ tt) (lit< tt),
-        value-same 20 (lit≤ tt) (lit< tt),
-      ))
+pub row-same : (first second : List ℕ) (a b : ℕ)
+    → ((k : ℕ) → k < rowWords → 1 ≤ k → getD first (a * rowWords + k) 0 ≡ getD second (b * rowWords + k) 0)
+    → (f : ℕ) → rowBehind first f a ≡ rowBehind second f b
+row-same first second a b same f =
+    rw (
+      same 1 (omega arith) (omega arith),
+      ranges-moved second first (rangesWord b) (rangesWord a) f (fieldCount - f)
+          (λ k p q. rw (add-assoc (a * rowWords) 2 k, add-assoc (b * rowWords) 2 k) (same (2 + k) (omega arith) (omega arith))),
+    )
 
 -- Lists with more at the end.
 module _ {A : Type 0} where
@@ -158,9 +146,9 @@ module _ (ws : List ℕ) (s : Bool) (p : ℕ → Bool) (x e : ℕ) (q : rowOf e 
       by false = refl
 
 -- The sides of a row at a cut, from what was asked of its range.
-pub sides-read : (ws : List ℕ) (at : ℕ) (low high : Value) (one other : ℕ) (a b : Bool) → low ≡ valueAt ws at → high ≡ valueAt ws (at + 2)
-    → contains (fromTo low high) one ≡ a → contains (fromTo low high) other ≡ b → cond a (cond b 3 1) (cond b 2 0) ≡ sidesOf (rangeAt ws at) one other
-sides-read ws at low high one other a b p q s t = rw (← p, ← q, s, t)
+pub sides-read : (ws : List ℕ) (at : ℕ) (e : Ends) (one other : ℕ) (a b : Bool) → e ≡ endsAt ws at → contains (endsRange e) one ≡ a → contains (endsRange e) other ≡ b
+    → cond a (cond b 3 1) (cond b 2 0) ≡ sidesOf (rangeAt ws at) one other
+sides-read ws at e one other a b p s t = rw (rw p at s, rw p at t)
 
 pub sides-small : (r : Range) (one other : ℕ) → sidesOf r one other < 8
 sides-small r one other = by (contains r one) (contains r other)

@@ -9,14 +9,21 @@ use mathlib.Core.Logic.{_≢_, _⊎_}
 use lib.Dec.{eqb, ltb}
 use lib.ListN.{length, getD, take}
 use Rattle.selectors.specs.Range.{Range, contains}
-use Rattle.selectors.specs.Words.{rangeAt}
+use Rattle.selectors.specs.Words.{rangeWords, rangeAt}
 use Rattle.normal_form.specs.Search.{Row, row, find}
 use Rattle.policy.specs.Words.{rowWords, rowLimit}
-use Rattle.cover.specs.Boxes.{rangesBehind, InBox, rowOf, tableOf, codeHolds}
+use Rattle.cover.specs.Boxes.{rangesWord, rangesBehind, InBox, rowOf, tableOf, codeHolds}
+
+-- The word of the action of the row i; and whether the row does not discard.
+abbrev pub actionIn : List ℕ → ℕ → ℕ
+actionIn ws i = getD ws (i * rowWords + 1) 0
+
+abbrev pub doesAct : List ℕ → ℕ → Bool
+doesAct ws i = not (eqb (actionIn ws i) 0)
 
 -- The row i of a policy, from the field f on, with the word of its action.
 abbrev pub rowBehind : List ℕ → ℕ → ℕ → Row ℕ
-rowBehind ws f i = row (rangesBehind ws (i * rowWords + 2) f) (getD ws (i * rowWords + 1) 0)
+rowBehind ws f i = row (rangesBehind ws (rangesWord i) f) (actionIn ws i)
 
 -- Two lists of rows, by their places in two policies, give the same action throughout a box: 0, discard, where no row holds the values.
 unfoldable pub Alike : ℕ → List ℕ → List ℕ → List ℕ → List ℕ → List ℕ → Type 0
@@ -25,7 +32,7 @@ Alike f bs first xs second ys =
 
 -- The range of the field f in the row i.
 abbrev pub rangeOf : List ℕ → ℕ → ℕ → Range
-rangeOf ws i f = rangeAt ws (i * rowWords + 2 + 4 * f)
+rangeOf ws i f = rangeAt ws (rangesWord i + rangeWords * f)
 
 -- Those of the numbers for which the test is true.
 unfoldable pub those : (ℕ → Bool) → List ℕ → List ℕ
@@ -37,7 +44,7 @@ abbrev pub onSide : Bool → ℕ → Bool
 onSide second e = cond second (eqb (e / 2 % 2) 1) (eqb (e % 2) 1)
 
 abbrev pub codeAction : List ℕ → List ℕ → ℕ → ℕ
-codeAction first second e = getD (tableOf first second e) (rowOf e * rowWords + 1) 0
+codeAction first second e = actionIn (tableOf first second e) (rowOf e)
 
 -- Entries: the codes of rows of two policies, the first `count` of a list, of which the fields from `field` on count.
 pub record Sides : Type 0 where
@@ -171,11 +178,14 @@ pub record Takes (test : ℕ → Bool) (among list : List ℕ) (n : ℕ) : Type 
   pub fits : n ≤ rowLimit
   pub rows : take n list ≡ those test among
 
--- A number is one of a list.
-pub record OneOf (xs : List ℕ) (x : ℕ) : Type 0 where
+-- A number is one of the first n of a list; or one of the list.
+pub record Early (xs : List ℕ) (n x : ℕ) : Type 0 where
   pub place : ℕ
-  pub below : place < length xs
+  pub below : place < n
   pub same : x ≡ getD xs place 0
+
+abbrev pub OneOf : List ℕ → ℕ → Type 0
+OneOf xs x = Early xs (length xs) x
 
 -- The first n numbers of a list are some of the places xs, and enough of them: two values of the field f that all of these rows treat alike get
 -- the same action from the rows at xs, whatever the fields behind hold.

@@ -11,8 +11,7 @@ use lib.Dec.{eqb}
 use lib.ListN.{length, getD, set}
 use lib.Seq.{getD-set-same, getD-set-other}
 use borrow.Author.Tests.{lt-ltb, le-ltb, eqb-true, eqb-false}
-use Rattle.policy.specs.Words.{rowWords}
-use Rattle.cover.specs.Boxes.{InBox, rowOf, tableOf, codeHolds, Common, Apart, Covers, Covered}
+use Rattle.cover.specs.Boxes.{rangesWord, InBox, rowOf, tableOf, codeHolds, Common, Apart, Covers, Covered}
 use Rattle.agree.specs.Sides.{onSide, codeAction, Sides, sides, onAt, actionAt, holdsAt, on, firstOf, Unseen, EntryApart, EntryCovers, EntryCommon, Earlier, Listed, Before, Hidden, Passed, Ended, Peace, Harmless, SameSides, Agreed}
 
 -- The side, the action and the ranges of an entry are those of its code; the end row is on both sides, discards and holds everything.
@@ -53,11 +52,11 @@ module _ (E : Sides) (k : ℕ) (bs : List ℕ) where
   abbrev code : ℕ
   code = getD (E .codes) k 0
 
-  pub apart-entry : k < E .count → Apart (tableOf (E .first) (E .second) code) (rowOf code * rowWords + 2) (E .field) bs → EntryApart E k bs
+  pub apart-entry : k < E .count → Apart (tableOf (E .first) (E .second) code) (rangesWord (rowOf code)) (E .field) bs → EntryApart E k bs
   unfolding Apart EntryApart
   apart-entry h t us i = holds-entry E k us h ∙ t us i
 
-  pub covers-entry : k < E .count → Covers (tableOf (E .first) (E .second) code) (rowOf code * rowWords + 2) (E .field) bs → EntryCovers E k bs
+  pub covers-entry : k < E .count → Covers (tableOf (E .first) (E .second) code) (rangesWord (rowOf code)) (E .field) bs → EntryCovers E k bs
   unfolding Covers EntryCovers
   covers-entry h t us i = holds-entry E k us h ∙ t us i
 
@@ -65,7 +64,7 @@ module _ (E : Sides) (k : ℕ) (bs : List ℕ) where
   unfolding EntryCovers
   covers-end h us i = holds-end E k us h
 
-  pub common-entry : (bs′ : List ℕ) → k < E .count → Common (tableOf (E .first) (E .second) code) (rowOf code * rowWords + 2) (E .field) bs bs′ → EntryCommon E k bs bs′
+  pub common-entry : (bs′ : List ℕ) → k < E .count → Common (tableOf (E .first) (E .second) code) (rangesWord (rowOf code)) (E .field) bs bs′ → EntryCommon E k bs bs′
   unfolding Common EntryCommon
   common-entry bs′ h t us i e = t us i (sym (holds-entry E k us h) ∙ e)
 

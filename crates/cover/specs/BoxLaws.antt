@@ -8,17 +8,15 @@ use mathlib.Core.Bool.{Bool, true, false, not, false≢true}
 use mathlib.Core.List.{List, [], _∷_}
 use mathlib.Core.Logic.{_≢_, _⊎_, inl, inr, ⊎-elim}
 use lib.Dec.{ltb}
-use lib.ListN.{length, getD, set, length-set, length-drop}
-use lib.Seq.{getD-set-same, getD-set-other, getD-drop}
+use lib.ListN.{length, getD}
 use borrow.Author.Tests.{ltb-true, ltb-false}
 use Rattle.selectors.specs.Range.{Range, range, contains, holds}
 use Rattle.selectors.specs.RangeLaws.{both-true, contains-in, contains-below, contains-above, contains-between}
-use Rattle.selectors.specs.Ranges.{fromTo}
 use Rattle.selectors.specs.Value.{number}
-use Rattle.selectors.specs.Words.{valueAt, rangeAt, rangesAt}
-use Rattle.selectors.specs.declared.Value.{Value}
-use Rattle.policy.specs.Words.{rowWords}
-use Rattle.cover.specs.Boxes.{rangesBehind, InBox, rowOf, tableOf, codeHolds, Lowered, Raised, Part, Common, Apart, Covers, RowsApart, RangeApart, RangeCovers, FieldStand, BoxStand, Covered, Surveyed}
+use Rattle.selectors.specs.Words.{fieldCount, rangeWords, rangesWords, valueAt, endsAt, rangeAt}
+use Rattle.selectors.specs.declared.Ends.{Ends}
+use Rattle.cover.specs.Boxes.{rangesWord, rangesBehind, InBox, rowOf, tableOf, codeHolds, Lowered, Raised, Part, Common, Apart, Covers, RowsApart, RangeApart, RangeCovers, FieldStand, BoxStand, Covered, Surveyed}
+use Rattle.cover.specs.RangesLaws.{ranges-length, range-of, written, value-own, value-other}
 use Rattle.cover.specs.declared.Stand.{Stand}
 
 -- Ranges hold values where each one holds its own.
@@ -44,44 +42,29 @@ holds-all [] (v ∷ us) z e t = absurd (omega arith)
 holds-all (r ∷ rs) [] z e t = absurd (omega arith)
 holds-all (r ∷ rs) (v ∷ us) z e t = rw (t 0 (omega arith)) (holds-all rs us z (omega arith) (λ k h. t (suc k) (omega arith)))
 
--- The range of the field g among the five at a word, and among those from the field f on.
 abbrev nothing : Range
 nothing = range 0 0
 
-field-range : (ws : List ℕ) (at g : ℕ) → g < 5 → getD (rangesAt ws at) g nothing ≡ rangeAt ws (at + 4 * g)
-field-range ws at zero h = simp add-zero
-field-range ws at (suc zero) h = refl
-field-range ws at (suc (suc zero)) h = refl
-field-range ws at (suc (suc (suc zero))) h = refl
-field-range ws at (suc (suc (suc (suc zero)))) h = refl
-field-range ws at (suc (suc (suc (suc (suc g))))) h = absurd (omega arith)
-
-behind-range : (ws : List ℕ) (at f k : ℕ) → f + k < 5 → getD (rangesBehind ws at f) k nothing ≡ rangeAt ws (at + 4 * (f + k))
-behind-range ws at f k h = getD-drop f (rangesAt ws at) k nothing ∙ field-range ws at (f + k) h
-
-behind-length : (ws : List ℕ) (at f : ℕ) → length (rangesBehind ws at f) ≡ 5 - f
-behind-length ws at f = length-drop f (rangesAt ws at)
-
 -- The ranges at a word, from the field f on, hold values: in the field g, in all of these fields, not in one.
 abbrev HeldIn : List ℕ → ℕ → ℕ → ℕ → List ℕ → Type 0
-HeldIn ws at f g us = contains (rangeAt ws (at + 4 * g)) (getD us (g - f) 0) ≡ true
+HeldIn ws at f g us = contains (rangeAt ws (at + rangeWords * g)) (getD us (g - f) 0) ≡ true
 
 module _ (ws : List ℕ) (at f : ℕ) (us : List ℕ) where
-  field-held : holds (rangesBehind ws at f) us ≡ true → (g : ℕ) → f ≤ g → g < 5 → HeldIn ws at f g us
+  field-held : holds (rangesBehind ws at f) us ≡ true → (g : ℕ) → f ≤ g → g < fieldCount → HeldIn ws at f g us
   field-held e g l h =
       let k : f + (g - f) ≡ g = omega arith in
-      rw (behind-range ws at f (g - f) (omega arith), k) at (holds-each (rangesBehind ws at f) us nothing e (g - f) (rw behind-length (omega arith)))
+      rw (range-of ws at f (fieldCount - f) (g - f) (omega arith), k) at (holds-each (rangesBehind ws at f) us nothing e (g - f) (rw ranges-length (omega arith)))
 
-  fields-hold : length us ≡ 5 - f → ((g : ℕ) → f ≤ g → g < 5 → HeldIn ws at f g us) → holds (rangesBehind ws at f) us ≡ true
-  fields-hold e t = holds-all (rangesBehind ws at f) us nothing (e ∙ sym (behind-length ws at f)) each
+  fields-hold : length us ≡ fieldCount - f → ((g : ℕ) → f ≤ g → g < fieldCount → HeldIn ws at f g us) → holds (rangesBehind ws at f) us ≡ true
+  fields-hold e t = holds-all (rangesBehind ws at f) us nothing (e ∙ sym (ranges-length ws at f (fieldCount - f))) each
     where
       each : (k : ℕ) → k < length (rangesBehind ws at f) → contains (getD (rangesBehind ws at f) k nothing) (getD us k 0) ≡ true
       each k h =
-          let l : f + k < 5 = omega (arith, behind-length ws at f) in
+          let l : f + k < fieldCount = omega (arith, ranges-length ws at f (fieldCount - f)) in
           let m : f + k - f ≡ k = omega arith in
-          rw (behind-range ws at f k l) (rw m at (t (f + k) (omega arith) l))
+          rw (range-of ws at f (fieldCount - f) k (omega arith)) (rw m at (t (f + k) (omega arith) l))
 
-  field-missed : (g : ℕ) → f ≤ g → g < 5 → contains (rangeAt ws (at + 4 * g)) (getD us (g - f) 0) ≡ false → holds (rangesBehind ws at f) us ≡ false
+  field-missed : (g : ℕ) → f ≤ g → g < fieldCount → contains (rangeAt ws (at + rangeWords * g)) (getD us (g - f) 0) ≡ false → holds (rangesBehind ws at f) us ≡ false
   field-missed g l h e = by (holds (rangesBehind ws at f) us) refl
     where
       by : (b : Bool) → holds (rangesBehind ws at f) us ≡ b → holds (rangesBehind ws at f) us ≡ false
@@ -89,13 +72,13 @@ module _ (ws : List ℕ) (at f : ℕ) (us : List ℕ) where
       by false t = t
 
 -- The same of a box, whose words begin at 0.
-box-length : (bs : List ℕ) (f : ℕ) (us : List ℕ) → InBox f bs us → length us ≡ 5 - f
-box-length bs f us e = holds-length (rangesBehind bs 0 f) us e ∙ behind-length bs 0 f
+box-length : (bs : List ℕ) (f : ℕ) (us : List ℕ) → InBox f bs us → length us ≡ fieldCount - f
+box-length bs f us e = holds-length (rangesBehind bs 0 f) us e ∙ ranges-length bs 0 f (fieldCount - f)
 
-box-held : (bs : List ℕ) (f : ℕ) (us : List ℕ) → InBox f bs us → (g : ℕ) → f ≤ g → g < 5 → contains (rangeAt bs (4 * g)) (getD us (g - f) 0) ≡ true
+box-held : (bs : List ℕ) (f : ℕ) (us : List ℕ) → InBox f bs us → (g : ℕ) → f ≤ g → g < fieldCount → contains (rangeAt bs (rangeWords * g)) (getD us (g - f) 0) ≡ true
 box-held bs f us e g l h = simp zero-add at (field-held bs 0 f us e g l h)
 
-box-holds : (bs : List ℕ) (f : ℕ) (us : List ℕ) → length us ≡ 5 - f → ((g : ℕ) → f ≤ g → g < 5 → contains (rangeAt bs (4 * g)) (getD us (g - f) 0) ≡ true) → InBox f bs us
+box-holds : (bs : List ℕ) (f : ℕ) (us : List ℕ) → length us ≡ fieldCount - f → ((g : ℕ) → f ≤ g → g < fieldCount → contains (rangeAt bs (rangeWords * g)) (getD us (g - f) 0) ≡ true) → InBox f bs us
 box-holds bs f us e t = fields-hold bs 0 f us e (λ g l h. simp zero-add (t g l h))
 
 -- How two ranges stand by the order of their ends.
@@ -126,11 +109,11 @@ field-covered s row box a t = record {
 
 -- The row holds the box's values in each of the fields from f on and before n.
 unfoldable pub CoversTo : List ℕ → ℕ → ℕ → List ℕ → ℕ → Type 0
-CoversTo ws at f bs n = (g : ℕ) → f ≤ g → g < n → RangeCovers (rangeAt ws (at + 4 * g)) (rangeAt bs (4 * g))
+CoversTo ws at f bs n = (g : ℕ) → f ≤ g → g < n → RangeCovers (rangeAt ws (at + rangeWords * g)) (rangeAt bs (rangeWords * g))
 
 module _ (ws : List ℕ) (at f : ℕ) (bs : List ℕ) where
   -- One field in which they are apart is enough; all have to be covered.
-  pub field-parts : (n : ℕ) → f ≤ n → n < 5 → RangeApart (rangeAt ws (at + 4 * n)) (rangeAt bs (4 * n)) → Apart ws at f bs
+  pub field-parts : (n : ℕ) → f ≤ n → n < fieldCount → RangeApart (rangeAt ws (at + rangeWords * n)) (rangeAt bs (rangeWords * n)) → Apart ws at f bs
   unfolding Apart
   field-parts n l h t us i = field-missed ws at f us n l h (t (getD us (n - f) 0) (box-held bs f us i n l h))
 
@@ -138,19 +121,19 @@ module _ (ws : List ℕ) (at f : ℕ) (bs : List ℕ) where
   unfolding CoversTo
   covers-none g l h = absurd (omega arith)
 
-  pub covers-more : (n : ℕ) → CoversTo ws at f bs n → RangeCovers (rangeAt ws (at + 4 * n)) (rangeAt bs (4 * n)) → CoversTo ws at f bs (n + 1)
+  pub covers-more : (n : ℕ) → CoversTo ws at f bs n → RangeCovers (rangeAt ws (at + rangeWords * n)) (rangeAt bs (rangeWords * n)) → CoversTo ws at f bs (n + 1)
   unfolding CoversTo
   covers-more n old t g p q = by (decLt g n)
     where
-      by : Dec (g < n) → RangeCovers (rangeAt ws (at + 4 * g)) (rangeAt bs (4 * g))
+      by : Dec (g < n) → RangeCovers (rangeAt ws (at + rangeWords * g)) (rangeAt bs (rangeWords * g))
       by (yes m) = old g p m
       by (no m) = let k : g ≡ n = omega arith in rw k t
 
-  pub covers-all : (n : ℕ) → 5 ≤ n → CoversTo ws at f bs n → Covers ws at f bs
+  pub covers-all : (n : ℕ) → fieldCount ≤ n → CoversTo ws at f bs n → Covers ws at f bs
   unfolding CoversTo Covers
   covers-all n q t us i = fields-hold ws at f us (box-length bs f us i) (λ g l h. t g l (omega arith) (getD us (g - f) 0) (box-held bs f us i g l h))
 
-  pub box-apart : (n : ℕ) (s r : Stand) → f ≤ n → n < 5 → r .apart ≡ true → FieldStand s (rangeAt ws (at + 4 * n)) (rangeAt bs (4 * n)) r
+  pub box-apart : (n : ℕ) (s r : Stand) → f ≤ n → n < fieldCount → r .apart ≡ true → FieldStand s (rangeAt ws (at + rangeWords * n)) (rangeAt bs (rangeWords * n)) r
       → BoxStand ws at f bs r
   box-apart n s r l h a t = record { apart = λ e. field-parts n l h (t .apart e); covers = λ e. absurd (false≢true (sym (t .one a) ∙ e)) }
 
@@ -161,67 +144,45 @@ module _ (ws : List ℕ) (at f : ℕ) (bs : List ℕ) where
   box-unknown s a c = box-covered s a (λ e. absurd (false≢true (sym c ∙ e)))
 
 -- Two rows are apart where their ranges of one field are.
-pub rows-part : (ws : List ℕ) (a b f n : ℕ) → f ≤ n → n < 5 → RangeApart (rangeAt ws (a * rowWords + 2 + 4 * n)) (rangeAt ws (b * rowWords + 2 + 4 * n)) → RowsApart ws a b f
+pub rows-part : (ws : List ℕ) (a b f n : ℕ) → f ≤ n → n < fieldCount → RangeApart (rangeAt ws (rangesWord a + rangeWords * n)) (rangeAt ws (rangesWord b + rangeWords * n)) → RowsApart ws a b f
 unfolding RowsApart
 rows-part ws a b f n l h t us i j =
-    false≢true (sym (t (getD us (n - f) 0) (field-held ws (b * rowWords + 2) f us j n l h)) ∙ field-held ws (a * rowWords + 2) f us i n l h)
-
--- A value that was written into a box, and the others.
-module _ (bs : List ℕ) (i : ℕ) (v : Value) where
-  abbrev pub written : List ℕ
-  written = set (set bs i (v .upper)) (i + 1) (v .lower)
-
-  value-own : i + 2 ≤ length bs → valueAt written i ≡ v
-  unfolding valueAt
-  value-own h =
-      let u : getD written i 0 ≡ v .upper =
-      getD-set-other (set bs i (v .upper)) (i + 1) i (v .lower) 0 (λ e. omega arith) ∙ getD-set-same bs i (v .upper) 0 (omega arith) in
-      let l : getD written (i + 1) 0 ≡ v .lower =
-      getD-set-same (set bs i (v .upper)) (i + 1) (v .lower) 0 (simp length-set (omega arith)) in
-      rw (u, l)
-
-  word-other : (j : ℕ) → j ≢ i → j ≢ i + 1 → getD written j 0 ≡ getD bs j 0
-  word-other j p q = getD-set-other (set bs i (v .upper)) (i + 1) j (v .lower) 0 q ∙ getD-set-other bs i j (v .upper) 0 p
-
-  value-other : (j : ℕ) → (j + 1 < i) ⊎ (i + 1 < j) → valueAt written j ≡ valueAt bs j
-  unfolding valueAt
-  value-other j (inl h) = rw (word-other j (λ e. omega arith) (λ e. omega arith), word-other (j + 1) (λ e. omega arith) (λ e. omega arith))
-  value-other j (inr h) = rw (word-other j (λ e. omega arith) (λ e. omega arith), word-other (j + 1) (λ e. omega arith) (λ e. omega arith))
+    false≢true (sym (t (getD us (n - f) 0) (field-held ws (rangesWord b) f us j n l h)) ∙ field-held ws (rangesWord a) f us i n l h)
 
 -- The words of two fields lie apart.
-fields-beside : (k g j l : ℕ) → k ≢ g → j ≤ 2 → l ≤ 2 → (4 * k + j + 1 < 4 * g + l) ⊎ (4 * g + l + 1 < 4 * k + j)
+fields-beside : (k g j l : ℕ) → k ≢ g → j ≤ 2 → l ≤ 2 → (rangeWords * k + j + 1 < rangeWords * g + l) ⊎ (rangeWords * g + l + 1 < rangeWords * k + j)
 fields-beside k g j l q p r = by (decLt k g)
   where
-    by : Dec (k < g) → (4 * k + j + 1 < 4 * g + l) ⊎ (4 * g + l + 1 < 4 * k + j)
+    by : Dec (k < g) → (rangeWords * k + j + 1 < rangeWords * g + l) ⊎ (rangeWords * g + l + 1 < rangeWords * k + j)
     by (yes h) = inl (omega arith)
     by (no h) = let m : g < k = omega (arith, q) in inr (omega arith)
 
 -- A box with another end in the field g, at the word j of the field: the range of that field is new, and no other.
-module _ (bs : List ℕ) (g j : ℕ) (v : Value) (p : j ≤ 2) where
-  range-other : (k : ℕ) → k ≢ g → rangeAt (written bs (4 * g + j) v) (4 * k) ≡ rangeAt bs (4 * k)
+module _ (bs : List ℕ) (g j n : ℕ) (p : j ≤ 2) where
+  range-other : (k : ℕ) → k ≢ g → rangeAt (written bs (rangeWords * g + j) n) (rangeWords * k) ≡ rangeAt bs (rangeWords * k)
   range-other k q =
-      rw (value-other bs (4 * g + j) v (4 * k) (simp add-zero at (fields-beside k g 0 j q (omega arith) p)), value-other bs (4 * g + j) v (4 * k + 2) (fields-beside k g 2 j q (omega arith) p))
+      rw (value-other bs (rangeWords * g + j) n (rangeWords * k) (simp add-zero at (fields-beside k g 0 j q (omega arith) p)), value-other bs (rangeWords * g + j) n (rangeWords * k + 2) (fields-beside k g 2 j q (omega arith) p))
 
-  box-written : (f : ℕ) (us : List ℕ) → InBox f bs us → (f ≤ g → contains (rangeAt (written bs (4 * g + j) v) (4 * g)) (getD us (g - f) 0) ≡ true)
-      → InBox f (written bs (4 * g + j) v) us
+  box-written : (f : ℕ) (us : List ℕ) → InBox f bs us → (f ≤ g → contains (rangeAt (written bs (rangeWords * g + j) n) (rangeWords * g)) (getD us (g - f) 0) ≡ true)
+      → InBox f (written bs (rangeWords * g + j) n) us
   box-written f us i t = box-holds _ f us (box-length bs f us i) (λ k l h. by k l h (ℕ-discrete k g))
     where
-      by : (k : ℕ) → f ≤ k → k < 5 → Dec (k ≡ g) → contains (rangeAt (written bs (4 * g + j) v) (4 * k)) (getD us (k - f) 0) ≡ true
+      by : (k : ℕ) → f ≤ k → k < fieldCount → Dec (k ≡ g) → contains (rangeAt (written bs (rangeWords * g + j) n) (rangeWords * k)) (getD us (k - f) 0) ≡ true
       by k l h (yes q) = rw q (t (omega arith))
       by k l h (no q) = rw (range-other k q) (box-held bs f us i k l h)
 
-module _ (bs bs′ : List ℕ) (g : ℕ) (v : Value) (h : g < 5) (size : length bs ≡ 20) where
-  pub written-high : bs′ ≡ written bs (4 * g + 2) v → Lowered g (number v) bs bs′
+module _ (bs bs′ : List ℕ) (g n : ℕ) (h : g < fieldCount) (size : length bs ≡ rangesWords) where
+  pub written-high : bs′ ≡ written bs (rangeWords * g + 2) n → Lowered g n bs bs′
   unfolding Lowered
-  written-high e f us i l = rw e (box-written bs g 2 v (omega arith) f us i (λ m.
-      rw (value-own bs (4 * g + 2) v (omega arith), value-other bs (4 * g + 2) v (4 * g) (inl (omega arith)))
-      (contains-in (fromTo (valueAt bs (4 * g)) v) (getD us (g - f) 0) (contains-between _ _ (box-held bs f us i g m h) .0) l)))
+  written-high e f us i l = rw e (box-written bs g 2 n (omega arith) f us i (λ m.
+      rw (value-own bs (rangeWords * g + 2) n (omega arith), value-other bs (rangeWords * g + 2) n (rangeWords * g) (inl (omega arith)))
+      (contains-in (range (number (valueAt bs (rangeWords * g))) n) (getD us (g - f) 0) (contains-between _ _ (box-held bs f us i g m h) .0) l)))
 
-  pub written-low : bs′ ≡ written bs (4 * g) v → Raised g (number v) bs bs′
+  pub written-low : bs′ ≡ written bs (rangeWords * g) n → Raised g n bs bs′
   unfolding Raised
-  written-low e f us i l = rw e ((simp add-zero at (box-written bs g 0 v (omega arith) f us i)) (λ m.
-      rw (value-own bs (4 * g) v (omega arith), value-other bs (4 * g) v (4 * g + 2) (inr (omega arith)))
-      (contains-in (fromTo v (valueAt bs (4 * g + 2))) (getD us (g - f) 0) l (contains-between _ _ (box-held bs f us i g m h) .1))))
+  written-low e f us i l = rw e ((simp add-zero at (box-written bs g 0 n (omega arith) f us i)) (λ m.
+      rw (value-own bs (rangeWords * g) n (omega arith), value-other bs (rangeWords * g) n (rangeWords * g + 2) (inr (omega arith)))
+      (contains-in (range n (number (valueAt bs (rangeWords * g + 2)))) (getD us (g - f) 0) l (contains-between _ _ (box-held bs f us i g m h) .1))))
 
 -- The box itself has what is in it.
 module _ (g n : ℕ) (bs : List ℕ) where
@@ -249,12 +210,12 @@ module _ (ws : List ℕ) (at f : ℕ) (bs : List ℕ) where
   unfolding Common
   common-none us i e = i
 
-  pub common-more : (g : ℕ) (low high : Value) (bs′ above bs″ : List ℕ) → f ≤ g → g < 5 → low ≡ valueAt ws (at + 4 * g) → high ≡ valueAt ws (at + 4 * g + 2)
-      → Common ws at f bs bs′ → Raised g (number low) bs′ above → Lowered g (number high) above bs″ → Common ws at f bs bs″
+  pub common-more : (g : ℕ) (row : Ends) (bs′ above bs″ : List ℕ) → f ≤ g → g < fieldCount → row ≡ endsAt ws (at + rangeWords * g)
+      → Common ws at f bs bs′ → Raised g (number (row .low)) bs′ above → Lowered g (number (row .high)) above bs″ → Common ws at f bs bs″
   unfolding Common Raised Lowered
-  common-more g low high bs′ above bs″ l h p q t r s us i e =
+  common-more g row bs′ above bs″ l h p t r s us i e =
       let b = contains-between _ _ (field-held ws at f us e g l h) in
-      s f us (r f us (t us i e) (rw p (b .0))) (rw q (b .1))
+      s f us (r f us (t us i e) (rw p (b .0))) (rw p (b .1))
 
 -- A test has one of the two answers.
 one-side : (b u : Bool) → (b ≡ not u) ⊎ (b ≡ not (not u))
@@ -265,7 +226,7 @@ one-side false false = inr refl
 
 -- The listed rows cover a box that one of them covers; a survey says so.
 module _ (first second es : List ℕ) (n f : ℕ) (bs : List ℕ) where
-  pub surveyed-row : (k : ℕ) (s : Stand) → k < n → BoxStand (tableOf first second (getD es k 0)) (rowOf (getD es k 0) * rowWords + 2) f bs s → Surveyed first second es n f bs s
+  pub surveyed-row : (k : ℕ) (s : Stand) → k < n → BoxStand (tableOf first second (getD es k 0)) (rangesWord (rowOf (getD es k 0))) f bs s → Surveyed first second es n f bs s
   unfolding Surveyed Covered Covers
   surveyed-row k s h t c us i miss = false≢true (sym (miss k h) ∙ t .covers c us i)
 

@@ -5,15 +5,19 @@ use mathlib.Core.Path.{_≡_}
 use mathlib.Core.Bool.{Bool, true, false, not, cond}
 use mathlib.Core.List.{List}
 use lib.Dec.{eqb, ltb}
-use lib.ListN.{getD, drop}
+use lib.ListN.{getD}
 use Rattle.selectors.specs.Range.{Range, contains, holds}
-use Rattle.selectors.specs.Words.{rangesAt}
+use Rattle.selectors.specs.Words.{fieldCount, rangesFrom}
 use Rattle.policy.specs.Words.{rowWords}
 use Rattle.cover.specs.declared.Stand.{Stand}
 
+-- The word at which the ranges of the row i begin: those of its direction and its action come first.
+abbrev pub rangesWord : ℕ → ℕ
+rangesWord i = i * rowWords + 2
+
 -- The ranges of the fields from f on, of the five from the word `at` on.
 abbrev pub rangesBehind : List ℕ → ℕ → ℕ → List Range
-rangesBehind ws at f = drop f (rangesAt ws at)
+rangesBehind ws at f = rangesFrom ws at f (fieldCount - f)
 
 -- These values are in the box.
 abbrev pub InBox : ℕ → List ℕ → List ℕ → Type 0
@@ -32,7 +36,7 @@ tableOf first second e = cond (inSecond e) second first
 
 -- The row of a code holds the values.
 abbrev pub codeHolds : List ℕ → List ℕ → ℕ → ℕ → List ℕ → Bool
-codeHolds first second f e us = holds (rangesBehind (tableOf first second e) (rowOf e * rowWords + 2) f) us
+codeHolds first second f e us = holds (rangesBehind (tableOf first second e) (rangesWord (rowOf e)) f) us
 
 -- What is still in the box where the field g has no value above h, none below l, or none on the other side of a value.
 unfoldable pub Lowered : ℕ → ℕ → List ℕ → List ℕ → Type 0
@@ -58,7 +62,7 @@ Covers ws at f bs = (us : List ℕ) → InBox f bs us → holds (rangesBehind ws
 -- No values are held by both of two rows, from the field f on.
 unfoldable pub RowsApart : List ℕ → ℕ → ℕ → ℕ → Type 0
 RowsApart ws a b f =
-    (us : List ℕ) → holds (rangesBehind ws (a * rowWords + 2) f) us ≡ true → holds (rangesBehind ws (b * rowWords + 2) f) us ≡ true → ⊥
+    (us : List ℕ) → holds (rangesBehind ws (rangesWord a) f) us ≡ true → holds (rangesBehind ws (rangesWord b) f) us ≡ true → ⊥
 
 -- The same of a range of the box and one of the row.
 abbrev pub RangeApart : Range → Range → Type 0

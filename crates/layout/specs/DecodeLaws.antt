@@ -2,63 +2,36 @@
 use Prim.Native.Nat.{ℕ, zero, suc, _+_, _-_, _*_, _/_, _≤_, _<_}
 use native.Mathlib.Omega.{arith}
 use mathlib.Core.Path.{_≡_, refl, sym, _∙_, ap}
-use mathlib.Core.Bool.{Bool, true, false, _&&_, false≢true}
+use mathlib.Core.Bool.{Bool, true, false, false≢true}
 use mathlib.Core.Logic.{_↔_}
 use mathlib.Core.List.{List, _∷_, _++_}
 use lib.Dec.{eqb}
 use lib.ListN.{length, getD}
 use borrow.Author.Tests.{eq-eqb}
-use Rattle.selectors.specs.Range.{Range, contains, sameRange, holds}
+use Rattle.selectors.specs.HeldLaws.{ranges-next, all-ranges, all-values}
+use Rattle.selectors.specs.Range.{Range, sameRange}
 use Rattle.selectors.specs.RangeLaws.{sameRange-true}
-use Rattle.selectors.specs.Value.{number}
-use Rattle.selectors.specs.Words.{valueAt, rangeAt, rangesAt}
+use Rattle.selectors.specs.Value.{number, combination}
+use Rattle.selectors.specs.Words.{fieldCount, rangeWords, endsAt, rangeAt, rangesFrom, valuesFrom, selectorsOf}
+use Rattle.selectors.specs.WordsLaws.{selectors-values}
 use Rattle.selectors.specs.declared.Direction.{Direction}
-use Rattle.selectors.specs.declared.Value.{Value}
+use Rattle.selectors.specs.declared.Ends.{Ends}
+use Rattle.selectors.specs.declared.Selectors.{Selectors}
 use Rattle.normal_form.specs.Search.{row}
 use Rattle.policy.specs.Policy.{matches, orderedSearch, matchFrom}
 use Rattle.policy.specs.Words.{actionWord, rowAt, policyRows, rowWords}
 use Rattle.policy.specs.WordsLaws.{action-word, actionFound, search-match}
 use Rattle.policy.specs.declared.Found.{Found}
 use Rattle.policy.specs.declared.Found.the-variants.{Row as FoundRow, Nothing}
+use Rattle.cover.specs.Boxes.{rangesWord}
+use Rattle.cover.specs.RangesLaws.{ranges-moved}
 use Rattle.agree.specs.Sides.{rangeOf}
 use Rattle.layout.specs.Parting.{parting}
-use Rattle.layout.specs.Decode.{valueOf, valuesFrom, rangesFrom, wordOf, active, partRow, partRows}
+use Rattle.layout.specs.Decode.{rowRanges, active, partRow, partRows}
 
--- The fields from f to n, without n: the first of them and the rest, or none.
-ranges-next : (ws : List ℕ) (i f n : ℕ) → f < n → rangesFrom ws i f (n - f) ≡ rangeOf ws i f ∷ rangesFrom ws i (f + 1) (n - (f + 1))
-unfolding rangesFrom
-ranges-next ws i f n h = let e : n - f ≡ suc (n - (f + 1)) = omega arith in ap (rangesFrom ws i f) e
-
-values-next : (ps : List ℕ) (f n : ℕ) → f < n → valuesFrom ps f (n - f) ≡ valueOf ps f ∷ valuesFrom ps (f + 1) (n - (f + 1))
-unfolding valuesFrom
-values-next ps f n h = let e : n - f ≡ suc (n - (f + 1)) = omega arith in ap (valuesFrom ps f) e
-
-module _ (ws ps : List ℕ) (i f n : ℕ) where
-  holds-next : f < n
-      → holds (rangesFrom ws i f (n - f)) (valuesFrom ps f (n - f))
-      ≡ (contains (rangeOf ws i f) (valueOf ps f) && holds (rangesFrom ws i (f + 1) (n - (f + 1))) (valuesFrom ps (f + 1) (n - (f + 1))))
-  unfolding holds
-  holds-next h = rw (ranges-next ws i f n h, values-next ps f n h)
-
-  pub holds-go : f < n → (v : Value) → v ≡ valueAt ps (2 * f) → contains (rangeOf ws i f) (number v) ≡ true
-      → holds (rangesFrom ws i f (n - f)) (valuesFrom ps f (n - f)) ≡ holds (rangesFrom ws i (f + 1) (n - (f + 1))) (valuesFrom ps (f + 1) (n - (f + 1)))
-  holds-go h v e t = holds-next h ∙ rw (rw e at t)
-
-  pub holds-stop : f < n → (v : Value) → v ≡ valueAt ps (2 * f) → contains (rangeOf ws i f) (number v) ≡ false
-      → holds (rangesFrom ws i f (n - f)) (valuesFrom ps f (n - f)) ≡ false
-  holds-stop h v e t = holds-next h ∙ rw (rw e at t)
-
-  pub holds-ended : n ≤ f → holds (rangesFrom ws i f (n - f)) (valuesFrom ps f (n - f)) ≡ true
-  unfolding holds rangesFrom valuesFrom
-  holds-ended h = let e : n - f ≡ zero = omega arith in rw e
-
--- A value, a range and a row are the same at two places whose words are the same.
-pub value-moved : (ws ws′ : List ℕ) (a b : ℕ) → getD ws′ a 0 ≡ getD ws b 0 → getD ws′ (a + 1) 0 ≡ getD ws (b + 1) 0 → valueAt ws′ a ≡ valueAt ws b
-unfolding valueAt
-value-moved ws ws′ a b p q = rw (p, q)
-
+-- A row is the same at two places whose words are the same.
 module _ (ws ws′ : List ℕ) where
-  -- The words k of the row i′ there are the words k of the row i here.
+  -- The word k of the row i′ there is the word k of the row i here.
   abbrev pub Same : ℕ → ℕ → ℕ → Type 0
   Same i i′ k = getD ws′ (i′ * rowWords + k) 0 ≡ getD ws (i * rowWords + k) 0
 
@@ -66,43 +39,30 @@ module _ (ws ws′ : List ℕ) where
     word-moved : (k j j′ : ℕ) → j ≡ i * rowWords + k → j′ ≡ i′ * rowWords + k → Same i i′ k → getD ws′ j′ 0 ≡ getD ws j 0
     word-moved k j j′ e e′ s = rw (e, e′) s
 
-    range-moved : (f : ℕ) → ((k : ℕ) → 2 + 4 * f ≤ k → k < 6 + 4 * f → Same i i′ k) → rangeOf ws′ i′ f ≡ rangeOf ws i f
-    range-moved f s =
-        let low : valueAt ws′ (wordOf i′ f) ≡ valueAt ws (wordOf i f) =
-        value-moved ws ws′ (wordOf i′ f) (wordOf i f)
-        (word-moved (2 + 4 * f) _ _ (omega arith) (omega arith) (s _ (omega arith) (omega arith)))
-        (word-moved (3 + 4 * f) _ _ (omega arith) (omega arith) (s _ (omega arith) (omega arith))) in
-        let high : valueAt ws′ (wordOf i′ f + 2) ≡ valueAt ws (wordOf i f + 2) =
-        value-moved ws ws′ (wordOf i′ f + 2) (wordOf i f + 2)
-        (word-moved (4 + 4 * f) _ _ (omega arith) (omega arith) (s _ (omega arith) (omega arith)))
-        (word-moved (5 + 4 * f) _ _ (omega arith) (omega arith) (s _ (omega arith) (omega arith))) in
-        rw (low, high)
-
-    pub ranges-moved : (f n : ℕ) → f + n ≤ 5 → ((k : ℕ) → 2 + 4 * f ≤ k → k < rowWords → Same i i′ k) → rangesFrom ws′ i′ f n ≡ rangesFrom ws i f n
-    unfolding rangesFrom
-    ranges-moved f zero h s = refl
-    ranges-moved f (suc n) h s =
-        rw (range-moved f (λ k p q. s k p (omega arith)), ranges-moved (f + 1) n (omega arith) (λ k p q. s k (omega arith) q))
+    pub row-ranges-moved : (f n : ℕ) → f + n ≤ fieldCount → ((k : ℕ) → 2 + rangeWords * f ≤ k → k < rowWords → Same i i′ k) → rowRanges ws′ i′ f n ≡ rowRanges ws i f n
+    row-ranges-moved f n h s =
+        ranges-moved ws ws′ (rangesWord i) (rangesWord i′) f n
+        (λ k p q. word-moved (2 + k) _ _ (omega arith) (omega arith) (s (2 + k) (omega arith) (omega arith)))
 
     -- A row needs its first two words and those of its fields.
-    pub row-moved : (f n : ℕ) → f + n ≤ 5 → Same i i′ 0 → Same i i′ 1 → ((k : ℕ) → 2 + 4 * f ≤ k → k < rowWords → Same i i′ k)
+    pub row-moved : (f n : ℕ) → f + n ≤ fieldCount → Same i i′ 0 → Same i i′ 1 → ((k : ℕ) → 2 + rangeWords * f ≤ k → k < rowWords → Same i i′ k)
         → partRow f n ws′ i′ ≡ partRow f n ws i
     unfolding partRow
     row-moved f n h s0 s1 s =
         rw (
-          ranges-moved f n h s,
+          row-ranges-moved f n h s,
           word-moved 0 (i * rowWords) (i′ * rowWords) (omega arith) (omega arith) s0,
           word-moved 1 (i * rowWords + 1) (i′ * rowWords + 1) (omega arith) (omega arith) s1,
         )
 
-  pub rows-moved : (f n : ℕ) → f + n ≤ 5 → (i i′ c : ℕ) → ((k : ℕ) → k < c * rowWords → Same i i′ k) → partRows f n ws′ i′ c ≡ partRows f n ws i c
+  pub rows-moved : (f n : ℕ) → f + n ≤ fieldCount → (i i′ c : ℕ) → ((k : ℕ) → k < c * rowWords → Same i i′ k) → partRows f n ws′ i′ c ≡ partRows f n ws i c
   unfolding partRows
   rows-moved f n h i i′ zero s = refl
   rows-moved f n h i i′ (suc c) s =
       rw (
         row-moved i i′ f n h (s 0 (omega arith)) (s 1 (omega arith)) (λ k p q. s k (omega arith)),
         rows-moved f n h (i + 1) (i′ + 1) c
-            (λ k p. word-moved i i′ (22 + k) _ _ (omega arith) (omega arith) (s (22 + k) (omega arith))),
+            (λ k p. word-moved i i′ (rowWords + k) _ _ (omega arith) (omega arith) (s (rowWords + k) (omega arith))),
       )
 
 -- Rows in two parts.
@@ -119,16 +79,15 @@ unfolding partRows
 rows-length f n ws i zero = refl
 rows-length f n ws i (suc c) = ap suc (rows-length f n ws (i + 1) c)
 
--- Two ranges of four words by their ends as values: the same if the low ends are and the high ends are.
-module _ (ws : List ℕ) (a b : ℕ) (low low′ : Value) (e : low ≡ valueAt ws a) (e′ : low′ ≡ valueAt ws b) where
-  pub ranges-low : eqb (number low) (number low′) ≡ false → sameRange (rangeAt ws a) (rangeAt ws b) ≡ false
+-- Two ranges of four words by their ends: the same if the low ends are and the high ends are.
+module _ (ws : List ℕ) (a b : ℕ) (own other : Ends) (e : own ≡ endsAt ws a) (e′ : other ≡ endsAt ws b) where
+  pub ranges-low : eqb (number (own .low)) (number (other .low)) ≡ false → sameRange (rangeAt ws a) (rangeAt ws b) ≡ false
   unfolding sameRange
   ranges-low h = rw (rw (e, e′) at h)
 
-  pub ranges-high : eqb (number low) (number low′) ≡ true → (high high′ : Value) → high ≡ valueAt ws (a + 2) → high′ ≡ valueAt ws (b + 2)
-      → eqb (number high) (number high′) ≡ sameRange (rangeAt ws a) (rangeAt ws b)
+  pub ranges-high : eqb (number (own .low)) (number (other .low)) ≡ true → eqb (number (own .high)) (number (other .high)) ≡ sameRange (rangeAt ws a) (rangeAt ws b)
   unfolding sameRange
-  ranges-high h high high′ g g′ = rw (rw (e, e′) at h, g, g′)
+  ranges-high h = rw (rw (e, e′) at h, e, e′)
 
 sameRange-refl : (r : Range) → sameRange r r ≡ true
 unfolding sameRange
@@ -147,20 +106,20 @@ cons-same x y xs ys e = (λ h. cc, λ h. cc)
 
 -- The ranges of two rows from a field on, one field at a time.
 module _ (ws : List ℕ) (a b f : ℕ) where
-  pub same-ranges-go : f < 5 → sameRange (rangeOf ws a f) (rangeOf ws b f) ≡ true
-      → (rangesFrom ws a f (5 - f) ≡ rangesFrom ws b f (5 - f)) ↔ (rangesFrom ws a (f + 1) (5 - (f + 1)) ≡ rangesFrom ws b (f + 1) (5 - (f + 1)))
-  same-ranges-go h e = rw (ranges-next ws a f 5 h, ranges-next ws b f 5 h) (cons-same _ _ _ _ (sameRange-true _ _ e))
+  pub same-ranges-go : f < fieldCount → sameRange (rangeOf ws a f) (rangeOf ws b f) ≡ true
+      → (rowRanges ws a f (fieldCount - f) ≡ rowRanges ws b f (fieldCount - f)) ↔ (rowRanges ws a (f + 1) (fieldCount - (f + 1)) ≡ rowRanges ws b (f + 1) (fieldCount - (f + 1)))
+  same-ranges-go h e = rw (ranges-next ws (rangesWord a) f fieldCount h, ranges-next ws (rangesWord b) f fieldCount h) (cons-same _ _ _ _ (sameRange-true _ _ e))
 
-  pub same-ranges-stop : f < 5 → sameRange (rangeOf ws a f) (rangeOf ws b f) ≡ false → rangesFrom ws a f (5 - f) ≡ rangesFrom ws b f (5 - f) → ⊥
+  pub same-ranges-stop : f < fieldCount → sameRange (rangeOf ws a f) (rangeOf ws b f) ≡ false → rowRanges ws a f (fieldCount - f) ≡ rowRanges ws b f (fieldCount - f) → ⊥
   same-ranges-stop h e p =
-      let q : rangeOf ws a f ∷ rangesFrom ws a (f + 1) (5 - (f + 1)) ≡ rangeOf ws b f ∷ rangesFrom ws b (f + 1) (5 - (f + 1)) =
-      sym (ranges-next ws a f 5 h) ∙ p ∙ ranges-next ws b f 5 h in
+      let q : rangeOf ws a f ∷ rowRanges ws a (f + 1) (fieldCount - (f + 1)) ≡ rangeOf ws b f ∷ rowRanges ws b (f + 1) (fieldCount - (f + 1)) =
+      sym (ranges-next ws (rangesWord a) f fieldCount h) ∙ p ∙ ranges-next ws (rangesWord b) f fieldCount h in
       let r : rangeOf ws a f ≡ rangeOf ws b f = cc in
       false≢true (sym e ∙ rw r (sameRange-refl (rangeOf ws b f)))
 
-  pub same-ranges-end : 5 ≤ f → rangesFrom ws a f (5 - f) ≡ rangesFrom ws b f (5 - f)
+  pub same-ranges-end : fieldCount ≤ f → rowRanges ws a f (fieldCount - f) ≡ rowRanges ws b f (fieldCount - f)
   unfolding rangesFrom
-  same-ranges-end h = let e : 5 - f ≡ zero = omega arith in rw e
+  same-ranges-end h = let e : fieldCount - f ≡ zero = omega arith in rw e
 
 -- Two rows are the same where their first two words are and their ranges are.
 module _ (f n : ℕ) (ws : List ℕ) (a b : ℕ) where
@@ -173,7 +132,7 @@ module _ (f n : ℕ) (ws : List ℕ) (a b : ℕ) where
   same-row-second d e = d (λ i. (e i) .leaf .first)
 
   pub same-row-ranges : (r : Bool) → getD ws (a * rowWords) 0 ≡ getD ws (b * rowWords) 0 → getD ws (a * rowWords + 1) 0 ≡ getD ws (b * rowWords + 1) 0
-      → (r ≡ true) ↔ (rangesFrom ws a f n ≡ rangesFrom ws b f n) → (r ≡ true) ↔ (partRow f n ws a ≡ partRow f n ws b)
+      → (r ≡ true) ↔ (rowRanges ws a f n ≡ rowRanges ws b f n) → (r ≡ true) ↔ (partRow f n ws a ≡ partRow f n ws b)
   unfolding partRow
   same-row-ranges r p q s =
       (λ t. let u = s .0 t in λ i. row (u i) (parting (q i) (p i)), λ t. s .1 (λ i. (t i) .ranges))
@@ -210,14 +169,14 @@ module _ (f n : ℕ) (ws : List ℕ) (a b i c : ℕ) where
   unfolding partRows
   same-rows-end h = let e : c - i ≡ zero = omega arith in rw e
 
--- All five ranges of a row, and a row whose first five ranges hold the values: the row matches.
-pub all-ranges : (ws : List ℕ) (i : ℕ) → rangesFrom ws i 0 5 ≡ rangesAt ws (i * rowWords + 2)
-unfolding rangesFrom
-all-ranges ws i = let e : i * rowWords + 2 + 0 ≡ i * rowWords + 2 = omega arith in rw e
-
-pub active-matches : (d : Direction) (ws : List ℕ) (i : ℕ) (vs : List ℕ) → active d ws i 5 vs ≡ matches d (rowAt ws (i * rowWords)) vs
+-- A row whose five ranges hold the values matches.
+pub active-matches : (d : Direction) (ws : List ℕ) (i : ℕ) (vs : List ℕ) → active d ws i fieldCount vs ≡ matches d (rowAt ws (i * rowWords)) vs
 unfolding active matches rowAt
-active-matches d ws i vs = rw (all-ranges ws i)
+active-matches d ws i vs = rw (all-ranges ws (rangesWord i))
+
+-- The selectors of a point's words are its values.
+pub point-values : (s : Selectors) (ps : List ℕ) → s ≡ selectorsOf ps → combination s ≡ valuesFrom ps 0 fieldCount
+point-values s ps e = ap (λ (r : Selectors). combination r) e ∙ selectors-values ps ∙ sym (all-values ps)
 
 -- The first match gives the action, and without one it is discard.
 module _ (d : Direction) (ws vs us : List ℕ) (found : Found) (e : vs ≡ us) (m : found ≡ matchFrom 0 d (policyRows ws) vs) where

@@ -9,21 +9,22 @@ use lib.ListN.{length, getD, set, length-set}
 use lib.Seq.{getD-set-same, getD-set-other}
 use borrow.Author.Tests.{eq-eqb, ne-eqb}
 use Rattle.selectors.specs.Range.{Range, contains, holds}
-use Rattle.selectors.specs.Value.{number}
+use Rattle.selectors.specs.Words.{fieldCount, valueWords, rangesFrom, valueOf, valuesFrom}
 use Rattle.selectors.specs.declared.Direction.{Direction}
-use Rattle.selectors.specs.declared.Value.{Value}
 use Rattle.normal_form.specs.Search.{row}
 use Rattle.normal_form.specs.NormalForm.{rowsOf, runs, normalForm}
 use Rattle.normal_form.specs.RunsLaws.{runs-ext}
 use Rattle.normal_form.specs.Laws.{leaf-cases, normal-form-ext}
 use Rattle.policy.specs.Policy.{PolicyRow, appliesTo, matches, orderedSearch}
 use Rattle.policy.specs.Words.{actionWord, directionOf, rowAt, rowsFrom, policyRows, rowWords}
+use Rattle.cover.specs.Boxes.{rangesWord}
+use Rattle.cover.specs.RangesLaws.{ranges-length, ranges-split, value-moved, written, word-other, value-own}
 use Rattle.agree.specs.Sides.{rangeOf}
 use Rattle.layout.specs.Parting.{parting, parting-≟, agreed, parted, partingAt}
-use Rattle.layout.specs.Decode.{valueOf, valuesFrom, sizesFrom, rangesFrom, active, partRow, partRows}
-use Rattle.layout.specs.DecodeLaws.{value-moved, active-matches}
-use Rattle.layout.specs.Steps.{formBehind, formAt, LaidOut, AlikeTo, AlikeAmong, SearchAlike, Outside}
-use Rattle.layout.specs.StepsLaws.{put-value, laid-rows, laid-over}
+use Rattle.layout.specs.Decode.{sizesFrom, rowRanges, active, partRow, partRows}
+use Rattle.layout.specs.DecodeLaws.{active-matches}
+use Rattle.layout.specs.Steps.{formBehind, formAt, LaidOut, AlikeTo, AlikeAmong, SearchAlike}
+use Rattle.layout.specs.StepsLaws.{laid-rows, laid-over}
 use Rattle.layout.specs.declared.Laid.the-variants.{Rows, Over}
 use Rattle.layout.specs.declared.Task.{Task}
 
@@ -53,22 +54,22 @@ module _ (d : Direction) (first second : List PolicyRow) (before : List ℕ) (a 
 module _ (first second : List ℕ) (task : Task) (before : List ℕ) (a b : ℕ)
     (ea : a ≡ actionWord (orderedSearch (task .direction) (policyRows first) before))
     (eb : b ≡ actionWord (orderedSearch (task .direction) (policyRows second) before)) where
-  pub laid-agreed : a ≡ b → (ws : List ℕ) → LaidOut (task .limit) 5 0 (formAt first second task before 5 0) ws (Rows 0)
+  pub laid-agreed : a ≡ b → (ws : List ℕ) → LaidOut (task .limit) fieldCount 0 (formAt first second task before fieldCount 0) ws (Rows 0)
   unfolding sizesFrom partRows
   laid-agreed e ws =
-      laid-rows (task .limit) 5 0 _ ws 0 (sym (leaf-agreed (task .direction) (policyRows first) (policyRows second) before a b ea eb e)) (omega arith)
+      laid-rows (task .limit) fieldCount 0 _ ws 0 (sym (leaf-agreed (task .direction) (policyRows first) (policyRows second) before a b ea eb e)) (omega arith)
 
-  pub laid-full : (a ≡ b → ⊥) → task .limit ≡ 0 → (ws : List ℕ) → LaidOut (task .limit) 5 0 (formAt first second task before 5 0) ws Over
+  pub laid-full : (a ≡ b → ⊥) → task .limit ≡ 0 → (ws : List ℕ) → LaidOut (task .limit) fieldCount 0 (formAt first second task before fieldCount 0) ws Over
   unfolding sizesFrom
   laid-full n e ws =
-      laid-over (task .limit) 5 0 _ ws
+      laid-over (task .limit) fieldCount 0 _ ws
       (rw (leaf-apart (task .direction) (policyRows first) (policyRows second) before a b ea eb n) (omega arith))
 
-  pub laid-leaf : (a ≡ b → ⊥) → (task .limit ≡ 0 → ⊥) → (ws : List ℕ) → task .limit * 22 ≤ length ws
-      → LaidOut (task .limit) 5 0 (formAt first second task before 5 0) (set (set ws 0 b) 1 a) (Rows 1)
+  pub laid-leaf : (a ≡ b → ⊥) → (task .limit ≡ 0 → ⊥) → (ws : List ℕ) → task .limit * rowWords ≤ length ws
+      → LaidOut (task .limit) fieldCount 0 (formAt first second task before fieldCount 0) (set (set ws 0 b) 1 a) (Rows 1)
   unfolding sizesFrom partRows partRow rangesFrom
   laid-leaf n z ws h =
-      laid-rows (task .limit) 5 0 _ (set (set ws 0 b) 1 a) 1
+      laid-rows (task .limit) fieldCount 0 _ (set (set ws 0 b) 1 a) 1
       (rw (
         getD-set-same (set ws 0 b) 1 a 0 (simp length-set (omega arith)),
         getD-set-other (set ws 0 b) 1 0 a 0 (λ e. omega arith),
@@ -85,15 +86,7 @@ form-field d first second before S Ss =
     (runs-ext parting-≟ _ _ S
     (λ v h. normal-form-ext parting-≟ agreed Ss _ _ (λ vs ok. ap (partingAt d first second) (sym (append-assoc before (v ∷ []) vs)))))
 
--- Ranges in two parts, and what holds in two parts.
-pub ranges-split : (ws : List ℕ) (i f n m : ℕ) → rangesFrom ws i f (n + m) ≡ rangesFrom ws i f n ++ rangesFrom ws i (f + n) m
-unfolding rangesFrom
-ranges-split ws i f zero m = let e : f + 0 ≡ f = omega arith in let z : 0 + m ≡ m = omega arith in rw (e, z)
-ranges-split ws i f (suc n) m =
-    let e : f + 1 + n ≡ f + suc n = omega arith in
-    let z : suc n + m ≡ suc (n + m) = omega arith in
-    ap (rangesFrom ws i f) z ∙ ap (rangeOf ws i f ∷_) (ranges-split ws i (f + 1) n m ∙ ap (λ (g : ℕ). rangesFrom ws i (f + 1) n ++ rangesFrom ws i g m) e)
-
+-- What holds in two parts.
 pub holds-append : (rs qs : List Range) (us vs : List ℕ) → length rs ≡ length us → holds (rs ++ qs) (us ++ vs) ≡ (holds rs us && holds qs vs)
 unfolding holds
 holds-append [] qs [] vs e = refl
@@ -106,34 +99,29 @@ unfolding valuesFrom
 values-length ps f zero = refl
 values-length ps f (suc n) = ap suc (values-length ps (f + 1) n)
 
-pub ranges-length : (ws : List ℕ) (i f n : ℕ) → length (rangesFrom ws i f n) ≡ n
-unfolding rangesFrom
-ranges-length ws i f zero = refl
-ranges-length ws i f (suc n) = ap suc (ranges-length ws i (f + 1) n)
-
 -- A row matches where it is active, its range of the next field holds that value, and the others hold the rest.
-module _ (d : Direction) (ws : List ℕ) (f : ℕ) (before : List ℕ) (e : length before ≡ f) (h : f < 5) where
+module _ (d : Direction) (ws : List ℕ) (f : ℕ) (before : List ℕ) (e : length before ≡ f) (h : f < fieldCount) where
   holds-split : (i v : ℕ) (vs : List ℕ)
-      → holds (rangesFrom ws i 0 5) (before ++ v ∷ vs)
-      ≡ (holds (rangesFrom ws i 0 f) before && (contains (rangeOf ws i f) v && holds (rangesFrom ws i (f + 1) (4 - f)) vs))
+      → holds (rowRanges ws i 0 fieldCount) (before ++ v ∷ vs)
+      ≡ (holds (rowRanges ws i 0 f) before && (contains (rangeOf ws i f) v && holds (rowRanges ws i (f + 1) (fieldCount - (f + 1))) vs))
   unfolding rangesFrom holds
   holds-split i v vs =
-      let k : 5 ≡ f + suc (4 - f) = omega arith in
+      let k : fieldCount ≡ f + suc (fieldCount - (f + 1)) = omega arith in
       let z : 0 + f ≡ f = omega arith in
-      ap (λ (m : ℕ). holds (rangesFrom ws i 0 m) (before ++ v ∷ vs)) k
-      ∙ ap (λ (rs : List Range). holds rs (before ++ v ∷ vs)) (ranges-split ws i 0 f (suc (4 - f)))
-      ∙ ap (λ (g : ℕ). holds (rangesFrom ws i 0 f ++ rangesFrom ws i g (suc (4 - f))) (before ++ v ∷ vs)) z
-      ∙ holds-append (rangesFrom ws i 0 f) (rangesFrom ws i f (suc (4 - f))) before (v ∷ vs) (ranges-length ws i 0 f ∙ sym e)
+      ap (λ (m : ℕ). holds (rowRanges ws i 0 m) (before ++ v ∷ vs)) k
+      ∙ ap (λ (rs : List Range). holds rs (before ++ v ∷ vs)) (ranges-split ws (rangesWord i) 0 f (suc (fieldCount - (f + 1))))
+      ∙ ap (λ (g : ℕ). holds (rowRanges ws i 0 f ++ rowRanges ws i g (suc (fieldCount - (f + 1)))) (before ++ v ∷ vs)) z
+      ∙ holds-append (rowRanges ws i 0 f) (rowRanges ws i f (suc (fieldCount - (f + 1)))) before (v ∷ vs) (ranges-length ws (rangesWord i) 0 f ∙ sym e)
 
   matches-split : (i v : ℕ) (vs : List ℕ)
       → matches d (rowAt ws (i * rowWords)) (before ++ v ∷ vs)
-      ≡ (active d ws i f before && (contains (rangeOf ws i f) v && holds (rangesFrom ws i (f + 1) (4 - f)) vs))
+      ≡ (active d ws i f before && (contains (rangeOf ws i f) v && holds (rowRanges ws i (f + 1) (fieldCount - (f + 1))) vs))
   unfolding active
   matches-split i v vs =
       sym (active-matches d ws i (before ++ v ∷ vs))
       ∙ ap (appliesTo (directionOf (getD ws (i * rowWords) 0)) d &&_) (holds-split i v vs)
-      ∙ sym (and-assoc (appliesTo (directionOf (getD ws (i * rowWords) 0)) d) (holds (rangesFrom ws i 0 f) before)
-      (contains (rangeOf ws i f) v && holds (rangesFrom ws i (f + 1) (4 - f)) vs))
+      ∙ sym (and-assoc (appliesTo (directionOf (getD ws (i * rowWords) 0)) d) (holds (rowRanges ws i 0 f) before)
+      (contains (rangeOf ws i f) v && holds (rowRanges ws i (f + 1) (fieldCount - (f + 1))) vs))
 
   -- So two values that are alike to the rows that are active give the same action, whatever the later fields hold.
   search-alike : (u v : ℕ) (vs : List ℕ) (i n : ℕ)
@@ -145,13 +133,13 @@ module _ (d : Direction) (ws : List ℕ) (f : ℕ) (before : List ℕ) (e : leng
       rw (matches-split i u vs, matches-split i v vs, by (active d ws i f before) refl (a i (omega arith)), search-alike u v vs (suc i) n (λ j k. a j (omega arith)))
     where
       by : (b : Bool) → active d ws i f before ≡ b → (b ≡ true → contains (rangeOf ws i f) u ≡ contains (rangeOf ws i f) v)
-          → (active d ws i f before && (contains (rangeOf ws i f) u && holds (rangesFrom ws i (f + 1) (4 - f)) vs))
-          ≡ (active d ws i f before && (contains (rangeOf ws i f) v && holds (rangesFrom ws i (f + 1) (4 - f)) vs))
+          → (active d ws i f before && (contains (rangeOf ws i f) u && holds (rowRanges ws i (f + 1) (fieldCount - (f + 1))) vs))
+          ≡ (active d ws i f before && (contains (rangeOf ws i f) v && holds (rowRanges ws i (f + 1) (fieldCount - (f + 1))) vs))
       by true t c = rw (c refl)
       by false t c = rw t
 
 -- So the search treats values of an interval that no active row parts alike.
-pub search-among : (d : Direction) (ws : List ℕ) (f : ℕ) (before : List ℕ) → length before ≡ f → f < 5 → (from last : ℕ)
+pub search-among : (d : Direction) (ws : List ℕ) (f : ℕ) (before : List ℕ) → length before ≡ f → f < fieldCount → (from last : ℕ)
     → AlikeAmong d ws (length ws / rowWords) f before from last → SearchAlike d ws before from last
 unfolding AlikeAmong AlikeTo SearchAlike
 search-among d ws f before e h from last a u p q us =
@@ -181,10 +169,7 @@ values-kept ps ps′ f zero s = refl
 values-kept ps ps′ f (suc n) s =
     rw (value-moved ps ps′ (2 * f) (2 * f) (s _ (omega arith)) (s _ (omega arith)), values-kept ps ps′ (f + 1) n (λ j h. s j (omega arith)))
 
-pub values-with : (ps : List ℕ) (f : ℕ) (v : Value) → 2 * f + 2 ≤ length ps
-    → valuesFrom (set (set ps (2 * f) (v .upper)) (2 * f + 1) (v .lower)) 0 (f + 1) ≡ valuesFrom ps 0 f ++ number v ∷ []
-unfolding Outside
-values-with ps f v h =
-    let p = put-value ps (2 * f) v h in
+pub values-with : (ps : List ℕ) (f n : ℕ) → valueWords * f + valueWords ≤ length ps → valuesFrom (written ps (valueWords * f) n) 0 (f + 1) ≡ valuesFrom ps 0 f ++ n ∷ []
+values-with ps f n h =
     let z : 0 + f ≡ f = omega arith in
-    values-last _ 0 f ∙ rw (z, p .value, values-kept ps _ 0 f (λ j k. p .others j (inl (omega arith))))
+    values-last _ 0 f ∙ rw (z, value-own ps (2 * f) n h, values-kept ps _ 0 f (λ j k. word-other ps (2 * f) n j (inl (omega arith))))

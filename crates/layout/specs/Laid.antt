@@ -5,7 +5,7 @@ use mathlib.Core.Bool.{cond}
 use mathlib.Core.List.{List, [], _∷_}
 use lib.Dec.{leb}
 use lib.ListN.{length}
-use Rattle.selectors.specs.Words.{rangesAt}
+use Rattle.selectors.specs.Words.{fieldCount, rangesAt}
 use Rattle.normal_form.specs.Search.{Row, row}
 use Rattle.policy.specs.Words.{rowWords}
 use Rattle.layout.specs.Parting.{Parting}
@@ -29,11 +29,14 @@ laidRows ws n = laidFrom ws 0 n
 
 -- The sizes of the five fields, by the highest value of each.
 abbrev pub sizesOf : Point → List ℕ
-sizesOf highest = sizesFrom (highest .words) 0 5
+sizesOf highest = sizesFrom (highest .words) 0 fieldCount
 
--- The words of room that a limit asks for: its rows for each of the five fields, and for what stands behind the last.
+-- The words of room for each row of a limit: a row for each of the five fields, and one for what stands behind the last. And for the limit.
+abbrev pub roomWords : ℕ
+roomWords = (fieldCount + 1) * rowWords
+
 abbrev pub roomFor : ℕ → ℕ
-roomFor limit = limit * 132
+roomFor limit = limit * roomWords
 
 -- The count of the rows, or that there are more than the limit.
 abbrev pub answerOf : ℕ → List (Row Parting) → Laid

@@ -6,23 +6,26 @@ use native.Mathlib.Numerals.{add-one}
 use mathlib.Core.Path.{_≡_, refl, sym, _∙_, ap}
 use mathlib.Core.Bool.{Bool, true, false, cond, _&&_, and-true, and-assoc}
 use mathlib.Core.List.{List, [], _∷_, _++_}
-use lib.ListN.{length, getD, set, drop, length-set}
-use lib.Seq.{length-take-le, getD-take, drop-cons}
+use lib.ListN.{length, getD, drop}
+use lib.Seq.{length-take-le, getD-take, drop-cons, length-sets}
 use Rattle.selectors.specs.Range.{contains, holds}
 use Rattle.selectors.specs.Value.{number}
+use Rattle.selectors.specs.Words.{fieldCount, valueWords, rangesFrom, valuesFrom, wordsOfValue}
 use Rattle.selectors.specs.declared.Direction.{Direction}
 use Rattle.selectors.specs.declared.Value.{Value}
 use Rattle.policy.specs.Policy.{appliesTo, orderedSearch}
 use Rattle.policy.specs.Words.{actionWord, actionOf, directionOf, rowAt, rowsFrom, policyRows, rowWords, rowLimit}
 use Rattle.policy.specs.WordsLaws.{action-word}
 use Rattle.policy.specs.declared.Action.the-variants.{Discard}
-use Rattle.agree.specs.Sides.{rangeOf, those, Takes}
-use Rattle.layout.specs.Decode.{valuesFrom, rangesFrom, active}
+use Rattle.cover.specs.Boxes.{rangesWord}
+use Rattle.cover.specs.RangesLaws.{ranges-length, ranges-split, written}
+use Rattle.agree.specs.Sides.{actionIn, rangeOf, those, There, Takes}
+use Rattle.layout.specs.Decode.{rowRanges, active}
 use Rattle.layout.specs.DecodeLaws.{active-matches}
-use Rattle.layout.specs.Steps.{AlikeTo, Ends}
+use Rattle.layout.specs.Steps.{AlikeTo, IntervalEnd}
 use Rattle.layout.specs.StepsLaws.{alike-less, each-more}
-use Rattle.layout.specs.FormLaws.{values-length, values-with, ranges-split, ranges-length, holds-append}
-use Rattle.layout.specs.Lists.{upFrom, listed, Within, Lists, Narrowed, AlikeListed, BranchAt}
+use Rattle.layout.specs.FormLaws.{values-length, values-with, holds-append}
+use Rattle.layout.specs.Lists.{upFrom, listed, Lists, Narrowed, AlikeListed, BranchAt}
 use Rattle.layout.specs.declared.Branch.{Branch}
 
 upFrom-more : (i n : ℕ) → upFrom i (suc n) ≡ upFrom i n ++ (i + n) ∷ []
@@ -71,19 +74,19 @@ module _ (p : ℕ → Bool) (m : ℕ) (list : List ℕ) (n : ℕ) (t : Takes p (
 
 -- The rows of a list, one after the other.
 module _ (ws xs : List ℕ) (f from : ℕ) where
-  pub listed-start : (best : ℕ) → from ≤ best → Ends from best best (AlikeListed ws xs 0 f from best)
+  pub listed-start : (best : ℕ) → from ≤ best → IntervalEnd from best best (AlikeListed ws xs 0 f from best)
   unfolding AlikeListed
   listed-start best h = record { reaches = h; within = omega arith; alike = λ i g. absurd (omega arith) }
 
-  pub listed-more : (n best last last′ : ℕ) → Ends from best last (AlikeListed ws xs n f from last)
-      → Ends from last last′ (AlikeTo (rangeOf ws (getD xs n 0) f) from last′) → Ends from best last′ (AlikeListed ws xs (n + 1) f from last′)
+  pub listed-more : (n best last last′ : ℕ) → IntervalEnd from best last (AlikeListed ws xs n f from last)
+      → IntervalEnd from last last′ (AlikeTo (rangeOf ws (getD xs n 0) f) from last′) → IntervalEnd from best last′ (AlikeListed ws xs (n + 1) f from last′)
   unfolding AlikeListed
   listed-more n best last last′ s t =
       each-more (λ i l. AlikeTo (rangeOf ws (getD xs i 0) f) from l) (λ i l l′ h a. alike-less _ from l l′ h a) from n best last last′ s t
 
 -- The listed rows of a policy that are active are rows of it.
 module _ (d : Direction) (ws : List ℕ) (f : ℕ) (before list : List ℕ) (n : ℕ) (t : Lists d ws f before list n) where
-  pub lists-within : Within ws list n
+  pub lists-within : There ws list n
   lists-within = record {
     sized = t .sized;
     fits = t .fits;
@@ -97,11 +100,11 @@ module _ (d : Direction) (ws : List ℕ) (f : ℕ) (before : List ℕ) (e : leng
   active-next i =
       let z : 0 + f ≡ f = omega arith in
       rw (
-        ranges-split ws i 0 f 1,
+        ranges-split ws (rangesWord i) 0 f 1,
         z,
-        holds-append (rangesFrom ws i 0 f) (rangeOf ws i f ∷ []) before (v ∷ []) (ranges-length ws i 0 f ∙ sym e),
+        holds-append (rowRanges ws i 0 f) (rangeOf ws i f ∷ []) before (v ∷ []) (ranges-length ws (rangesWord i) 0 f ∙ sym e),
         and-true,
-      ) (sym (and-assoc (appliesTo (directionOf (getD ws (i * rowWords) 0)) d) (holds (rangesFrom ws i 0 f) before) (contains (rangeOf ws i f) v)))
+      ) (sym (and-assoc (appliesTo (directionOf (getD ws (i * rowWords) 0)) d) (holds (rowRanges ws i 0 f) before) (contains (rangeOf ws i f) v)))
 
   pub lists-next : (old : List ℕ) (m : ℕ) (list : List ℕ) (n : ℕ) → Lists d ws f before old m → Narrowed ws f v old m list n
       → Lists d ws (f + 1) (before ++ v ∷ []) list n
@@ -113,44 +116,44 @@ module _ (d : Direction) (ws : List ℕ) (f : ℕ) (before : List ℕ) (e : leng
 
 -- The first row that is active behind all fields is the first match.
 module _ (d : Direction) (ws vs : List ℕ) where
-  search-found : (i m k j : ℕ) (js : List ℕ) → those (λ n. active d ws n 5 vs) (upFrom i m) ≡ j ∷ js
-      → orderedSearch d (rowsFrom ws i (m + k)) vs ≡ actionOf (getD ws (j * rowWords + 1) 0)
+  search-found : (i m k j : ℕ) (js : List ℕ) → those (λ n. active d ws n fieldCount vs) (upFrom i m) ≡ j ∷ js
+      → orderedSearch d (rowsFrom ws i (m + k)) vs ≡ actionOf (actionIn ws j)
   unfolding those upFrom orderedSearch rowsFrom rowAt
   search-found i zero k j js e = let z : _≡_ {A = ℕ} 0 1 = cc in absurd (omega arith)
   search-found i (suc m) k j js e =
       let n : suc m + k ≡ suc (m + k) = omega arith in
       ap (λ (c : ℕ). orderedSearch d (rowsFrom ws i c) vs) n
-      ∙ rw (← (active-matches d ws i vs)) (by (active d ws i 5 vs) refl (those (λ n. active d ws n 5 vs) (upFrom (suc i) m)) (λ q. search-found (suc i) m k j js q) e)
+      ∙ rw (← (active-matches d ws i vs)) (by (active d ws i fieldCount vs) refl (those (λ n. active d ws n fieldCount vs) (upFrom (suc i) m)) (λ q. search-found (suc i) m k j js q) e)
     where
-      by : (b : Bool) → active d ws i 5 vs ≡ b → (xs : List ℕ)
-          → (xs ≡ j ∷ js → orderedSearch d (rowsFrom ws (suc i) (m + k)) vs ≡ actionOf (getD ws (j * rowWords + 1) 0))
-          → cond (active d ws i 5 vs) (i ∷ xs) xs ≡ j ∷ js
-          → cond (active d ws i 5 vs) (actionOf (getD ws (i * rowWords + 1) 0)) (orderedSearch d (rowsFrom ws (suc i) (m + k)) vs)
-          ≡ actionOf (getD ws (j * rowWords + 1) 0)
+      by : (b : Bool) → active d ws i fieldCount vs ≡ b → (xs : List ℕ)
+          → (xs ≡ j ∷ js → orderedSearch d (rowsFrom ws (suc i) (m + k)) vs ≡ actionOf (actionIn ws j))
+          → cond (active d ws i fieldCount vs) (i ∷ xs) xs ≡ j ∷ js
+          → cond (active d ws i fieldCount vs) (actionOf (actionIn ws i)) (orderedSearch d (rowsFrom ws (suc i) (m + k)) vs)
+          ≡ actionOf (actionIn ws j)
       by true a xs ih q = let p : i ∷ xs ≡ j ∷ js = rw a at q in let z : i ≡ j = cc in rw (a, z)
       by false a xs ih q = rw a (ih (rw a at q))
 
-  search-none : (i m : ℕ) → those (λ n. active d ws n 5 vs) (upFrom i m) ≡ [] → orderedSearch d (rowsFrom ws i m) vs ≡ Discard
+  search-none : (i m : ℕ) → those (λ n. active d ws n fieldCount vs) (upFrom i m) ≡ [] → orderedSearch d (rowsFrom ws i m) vs ≡ Discard
   unfolding those upFrom orderedSearch rowsFrom
   search-none i zero e = refl
   search-none i (suc m) e =
-      rw (← (active-matches d ws i vs)) (by (active d ws i 5 vs) refl (those (λ n. active d ws n 5 vs) (upFrom (suc i) m)) (λ q. search-none (suc i) m q) e)
+      rw (← (active-matches d ws i vs)) (by (active d ws i fieldCount vs) refl (those (λ n. active d ws n fieldCount vs) (upFrom (suc i) m)) (λ q. search-none (suc i) m q) e)
     where
-      by : (b : Bool) → active d ws i 5 vs ≡ b → (xs : List ℕ) → (xs ≡ [] → orderedSearch d (rowsFrom ws (suc i) m) vs ≡ Discard)
-          → cond (active d ws i 5 vs) (i ∷ xs) xs ≡ []
-          → cond (active d ws i 5 vs) (rowAt ws (i * rowWords) .action) (orderedSearch d (rowsFrom ws (suc i) m) vs) ≡ Discard
+      by : (b : Bool) → active d ws i fieldCount vs ≡ b → (xs : List ℕ) → (xs ≡ [] → orderedSearch d (rowsFrom ws (suc i) m) vs ≡ Discard)
+          → cond (active d ws i fieldCount vs) (i ∷ xs) xs ≡ []
+          → cond (active d ws i fieldCount vs) (rowAt ws (i * rowWords) .action) (orderedSearch d (rowsFrom ws (suc i) m) vs) ≡ Discard
       by true a xs ih q = let p : i ∷ xs ≡ [] = rw a at q in let z : _≡_ {A = ℕ} 0 1 = cc in absurd (omega arith)
       by false a xs ih q = rw a (ih (rw a at q))
 
-  module _ (list : List ℕ) (n : ℕ) (t : Lists d ws 5 vs list n) where
-    pub lists-found : 0 < n → getD ws (getD list 0 0 * rowWords + 1) 0 ≡ actionWord (orderedSearch d (policyRows ws) vs)
+  module _ (list : List ℕ) (n : ℕ) (t : Lists d ws fieldCount vs list n) where
+    pub lists-found : 0 < n → actionIn ws (getD list 0 0) ≡ actionWord (orderedSearch d (policyRows ws) vs)
     lists-found h =
-        let xs = those (λ n. active d ws n 5 vs) (upFrom 0 (listed ws)) in
+        let xs = those (λ n. active d ws n fieldCount vs) (upFrom 0 (listed ws)) in
         let m : length ws / rowWords ≡ listed ws + (length ws / rowWords - listed ws) = omega (arith, min-le-left (length ws / rowWords) rowLimit) in
-        let r : orderedSearch d (policyRows ws) vs ≡ actionOf (getD ws (getD xs 0 0 * rowWords + 1) 0) =
+        let r : orderedSearch d (policyRows ws) vs ≡ actionOf (actionIn ws (getD xs 0 0)) =
         ap (λ (c : ℕ). orderedSearch d (rowsFrom ws 0 c) vs) m
         ∙ search-found 0 (listed ws) (length ws / rowWords - listed ws) (getD xs 0 0) (drop 1 xs) (drop-cons xs 0 0 (rw (taken _ _ list n t) h)) in
-        sym (ap actionWord r ∙ action-word (getD ws (getD xs 0 0 * rowWords + 1) 0) ∙ ap (λ (j : ℕ). getD ws (j * rowWords + 1) 0) (taken-at _ _ list n t 0 h))
+        sym (ap actionWord r ∙ action-word (actionIn ws (getD xs 0 0)) ∙ ap (λ (j : ℕ). actionIn ws j) (taken-at _ _ list n t 0 h))
 
     pub lists-none : n ≡ 0 → length ws / rowWords ≤ rowLimit → 0 ≡ actionWord (orderedSearch d (policyRows ws) vs)
     lists-none e h =
@@ -159,20 +162,20 @@ module _ (d : Direction) (ws vs : List ℕ) where
 
 -- A branch with a value more is one at the next field, and one without values is one at the first field.
 module _ (d : Direction) (first second : List ℕ) where
-  pub branch-next : (f : ℕ) (v : Value) (old b : Branch) (xs ys xs′ ys′ : List ℕ) (g : ℕ) → g ≡ f + 1 → f < 5 → BranchAt d first second f old xs ys
-      → b .point .words ≡ set (set (old .point .words) (2 * f) (v .upper)) (2 * f + 1) (v .lower)
+  pub branch-next : (f : ℕ) (v : Value) (old b : Branch) (xs ys xs′ ys′ : List ℕ) (g : ℕ) → g ≡ f + 1 → f < fieldCount → BranchAt d first second f old xs ys
+      → b .point .words ≡ written (old .point .words) (valueWords * f) (number v)
       → Narrowed first f (number v) xs (old .firsts) xs′ (b .firsts) → Narrowed second f (number v) ys (old .seconds) ys′ (b .seconds)
       → BranchAt d first second g b xs′ ys′
   branch-next f v old b xs ys xs′ ys′ g z h s w p q =
       let e : valuesFrom (b .point .words) 0 (f + 1) ≡ valuesFrom (old .point .words) 0 f ++ number v ∷ [] =
-      ap (λ (ps : List ℕ). valuesFrom ps 0 (f + 1)) w ∙ values-with (old .point .words) f v (omega (arith, s .sized)) in
+      ap (λ (ps : List ℕ). valuesFrom ps 0 (f + 1)) w ∙ values-with (old .point .words) f (number v) (omega (arith, s .sized)) in
       rw z record {
-        sized = rw (w, length-set, length-set) (s .sized);
+        sized = rw (w, length-sets (old .point .words) (valueWords * f) (wordsOfValue (number v))) (s .sized);
         of-first = rw e (lists-next d first f _ (values-length _ 0 f) (number v) xs _ xs′ _ (s .of-first) p);
         of-second = rw e (lists-next d second f _ (values-length _ 0 f) (number v) ys _ ys′ _ (s .of-second) q);
       }
 
-  pub branch-start : (b : Branch) (xs ys : List ℕ) → length (b .point .words) ≡ 10 → Lists d first 0 [] xs (b .firsts) → Lists d second 0 [] ys (b .seconds)
+  pub branch-start : (b : Branch) (xs ys : List ℕ) → length (b .point .words) ≡ fieldCount * valueWords → Lists d first 0 [] xs (b .firsts) → Lists d second 0 [] ys (b .seconds)
       → BranchAt d first second 0 b xs ys
   unfolding valuesFrom
   branch-start b xs ys e s t = record { sized = e; of-first = s; of-second = t }

@@ -7,16 +7,15 @@ use mathlib.Core.Logic.{_≢_, _⊎_}
 use lib.ListN.{length, getD}
 use Rattle.selectors.specs.Range.{Range, contains}
 use Rattle.selectors.specs.Value.{number}
-use Rattle.selectors.specs.Words.{valueAt}
+use Rattle.selectors.specs.Words.{fieldCount, valuesFrom}
 use Rattle.selectors.specs.declared.Direction.{Direction}
-use Rattle.selectors.specs.declared.Value.{Value}
 use Rattle.normal_form.specs.Search.{Row}
 use Rattle.normal_form.specs.NormalForm.{under, normalForm}
 use Rattle.policy.specs.Policy.{PolicyRow, orderedSearch}
 use Rattle.policy.specs.Words.{actionWord, policyRows, rowWords}
 use Rattle.agree.specs.Sides.{rangeOf}
 use Rattle.layout.specs.Parting.{Parting, parting-≟, agreed, partingAt}
-use Rattle.layout.specs.Decode.{valuesFrom, sizesFrom, active, partRow, partRows}
+use Rattle.layout.specs.Decode.{sizesFrom, active, partRow, partRows}
 use Rattle.layout.specs.Laid.{answerOf}
 use Rattle.layout.specs.declared.Point.{Point}
 use Rattle.layout.specs.declared.Kept.{Kept}
@@ -38,10 +37,10 @@ formAt first second task before f n =
 
 -- All fields from f on, behind the values of a point; and those behind a value v of the field f.
 abbrev pub fieldForm : List ℕ → List ℕ → Task → Point → ℕ → List (Row Parting)
-fieldForm first second task point f = formAt first second task (valuesFrom (point .words) 0 f) f (5 - f)
+fieldForm first second task point f = formAt first second task (valuesFrom (point .words) 0 f) f (fieldCount - f)
 
 abbrev pub valueForm : List ℕ → List ℕ → Task → Point → ℕ → ℕ → List (Row Parting)
-valueForm first second task point f v = formAt first second task (valuesFrom (point .words) 0 f ++ v ∷ []) (f + 1) (5 - (f + 1))
+valueForm first second task point f v = formAt first second task (valuesFrom (point .words) 0 f ++ v ∷ []) (f + 1) (fieldCount - (f + 1))
 
 -- What a layout of n fields from f on leaves: the answer, and in the room the rows if they are within the limit.
 pub record LaidOut (limit f n : ℕ) (form : List (Row Parting)) (ws : List ℕ) (r : Laid) : Type 0 where
@@ -64,7 +63,7 @@ SearchAlike d ws before from last =
     → actionWord (orderedSearch d (policyRows ws) (before ++ u ∷ us)) ≡ actionWord (orderedSearch d (policyRows ws) (before ++ from ∷ us))
 
 -- The last value of an interval that begins at `from` and ends at `best` at the latest; P says to what its values are alike.
-pub record Ends (from best last : ℕ) (P : Type 0) : Type 0 where
+pub record IntervalEnd (from best last : ℕ) (P : Type 0) : Type 0 where
   pub reaches : from ≤ last
   pub within : last ≤ best
   pub alike : P
@@ -72,11 +71,6 @@ pub record Ends (from best last : ℕ) (P : Type 0) : Type 0 where
 -- Words outside a part are as before.
 unfoldable pub Outside : ℕ → ℕ → List ℕ → List ℕ → Type 0
 Outside a b ws ws′ = (j : ℕ) → (j < a) ⊎ (b ≤ j) → getD ws′ j 0 ≡ getD ws j 0
-
--- The value v stands in two words.
-pub record Put (at : ℕ) (v : Value) (ws ws′ : List ℕ) : Type 0 where
-  pub value : valueAt ws′ at ≡ v
-  pub others : Outside at (at + 2) ws ws′
 
 -- The rows a to b, without b, have got a range in front, and all other words are as before.
 pub record Stamped (f n a b low high : ℕ) (ws ws′ : List ℕ) : Type 0 where

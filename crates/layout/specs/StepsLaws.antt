@@ -7,30 +7,31 @@ use mathlib.Core.Path.{_≡_, refl, sym, _∙_, ap}
 use mathlib.Core.Bool.{true}
 use mathlib.Core.List.{List, _++_, map}
 use mathlib.Core.Logic.{_≢_, inl, inr, ⊎-elim}
-use lib.ListN.{length, getD, set, length-set}
-use lib.Seq.{getD-set-same, getD-set-other}
+use lib.ListN.{length, getD}
 use borrow.Author.Tests.{le-leb, lt-leb}
 use Rattle.selectors.specs.Range.{Range}
 use Rattle.selectors.specs.RangeLaws.{contains-in, contains-below, contains-above}
-use Rattle.selectors.specs.Ranges.{fromTo}
+use Rattle.selectors.specs.Ranges.{endsRange}
 use Rattle.selectors.specs.Value.{number}
-use Rattle.selectors.specs.Words.{valueAt, rangeAt}
+use Rattle.selectors.specs.Words.{fieldCount, rangeWords, valueAt, endsAt, rangeAt, rangesFrom}
 use Rattle.selectors.specs.declared.Direction.{Direction}
+use Rattle.selectors.specs.declared.Ends.{Ends}
 use Rattle.selectors.specs.declared.Value.{Value}
 use Rattle.normal_form.specs.Search.{Row, row}
 use Rattle.normal_form.specs.NormalForm.{under}
 use Rattle.policy.specs.Words.{rowWords}
+use Rattle.cover.specs.RangesLaws.{writtenRange, range-words, low-own, high-own}
 use Rattle.agree.specs.Sides.{rangeOf}
-use Rattle.layout.specs.Decode.{wordOf, rangesFrom, active, partRow, partRows}
-use Rattle.layout.specs.DecodeLaws.{value-moved, ranges-moved, row-moved, rows-moved, rows-split, rows-length}
-use Rattle.layout.specs.Steps.{AlikeTo, AlikeAmong, SearchAlike, Ends, Outside, Put, Stamped, Begun, LaidOut, wordsFor}
+use Rattle.layout.specs.Decode.{wordOf, active, partRow, partRows}
+use Rattle.layout.specs.DecodeLaws.{row-ranges-moved, row-moved, rows-moved, rows-split, rows-length}
+use Rattle.layout.specs.Steps.{AlikeTo, AlikeAmong, SearchAlike, IntervalEnd, Outside, Stamped, Begun, LaidOut, wordsFor}
 use Rattle.layout.specs.declared.Kept.{Kept}
 use Rattle.layout.specs.declared.Laid.the-variants.{Rows, Over}
 use Rattle.layout.specs.Parting.{Parting}
 
 -- A range treats alike what is below it, what is above it, and what is in it.
 module _ (r : Range) (from best last : ℕ) (h : from ≤ best) where
-  pub ends-below : (before : ℕ) → from < r .low → before ≡ r .low - 1 → last ≡ min before best → Ends from best last (AlikeTo r from last)
+  pub ends-below : (before : ℕ) → from < r .low → before ≡ r .low - 1 → last ≡ min before best → IntervalEnd from best last (AlikeTo r from last)
   unfolding AlikeTo
   ends-below before p e m = record {
     reaches = rw m (le-min (omega arith) h);
@@ -40,11 +41,11 @@ module _ (r : Range) (from best last : ℕ) (h : from ≤ best) where
         contains-below r u (omega arith) ∙ sym (contains-below r from p);
   }
 
-  pub ends-above : r .high < from → Ends from best best (AlikeTo r from best)
+  pub ends-above : r .high < from → IntervalEnd from best best (AlikeTo r from best)
   unfolding AlikeTo
   ends-above p = record { reaches = h; within = omega arith; alike = λ u g k. contains-above r u (omega arith) ∙ sym (contains-above r from p) }
 
-  pub ends-inside : r .low ≤ from → from ≤ r .high → last ≡ min (r .high) best → Ends from best last (AlikeTo r from last)
+  pub ends-inside : r .low ≤ from → from ≤ r .high → last ≡ min (r .high) best → IntervalEnd from best last (AlikeTo r from last)
   unfolding AlikeTo
   ends-inside p q m = record {
     reaches = rw m (le-min q h);
@@ -54,22 +55,22 @@ module _ (r : Range) (from best last : ℕ) (h : from ≤ best) where
         contains-in r u (omega arith) (omega arith) ∙ sym (contains-in r from p q);
   }
 
--- A range by its ends as values.
-pub ends-range : (from best last : ℕ) (ws : List ℕ) (at : ℕ) (low high : Value) → low ≡ valueAt ws at → high ≡ valueAt ws (at + 2)
-    → Ends from best last (AlikeTo (fromTo low high) from last) → Ends from best last (AlikeTo (rangeAt ws at) from last)
-ends-range from best last ws at low high e g t = record { reaches = t .reaches; within = t .within; alike = rw (e, g) at (t .alike) }
+-- A range by its ends.
+pub ends-range : (from best last : ℕ) (ws : List ℕ) (at : ℕ) (range : Ends) → range ≡ endsAt ws at
+    → IntervalEnd from best last (AlikeTo (endsRange range) from last) → IntervalEnd from best last (AlikeTo (rangeAt ws at) from last)
+ends-range from best last ws at range e t = record { reaches = t .reaches; within = t .within; alike = rw e at (t .alike) }
 
 -- A range that counts only under a condition: where it ends nothing earlier, where the condition does not hold, and else.
 module _ (from best last : ℕ) {P : Type 0} where
-  pub ends-whole : (r : Range) → Ends from best last (AlikeTo r from last) → best ≤ last → Ends from best best (P → AlikeTo r from best)
+  pub ends-whole : (r : Range) → IntervalEnd from best last (AlikeTo r from last) → best ≤ last → IntervalEnd from best best (P → AlikeTo r from best)
   ends-whole r t h =
       let e : last ≡ best = omega (arith, t .within) in
       record { reaches = omega (arith, t .reaches); within = omega arith; alike = λ p. rw e at (t .alike) }
 
-  pub ends-passed : {Q : Type 0} → from ≤ best → (P → ⊥) → Ends from best best (P → Q)
+  pub ends-passed : {Q : Type 0} → from ≤ best → (P → ⊥) → IntervalEnd from best best (P → Q)
   ends-passed h n = record { reaches = h; within = omega arith; alike = λ p. absurd (n p) }
 
-  pub ends-under : {Q : Type 0} → Ends from best last Q → Ends from best last (P → Q)
+  pub ends-under : {Q : Type 0} → IntervalEnd from best last Q → IntervalEnd from best last (P → Q)
   ends-under t = record { reaches = t .reaches; within = t .within; alike = λ p. t .alike }
 
 -- A value up to the last one, as well.
@@ -79,8 +80,8 @@ alike-less r from last last′ h a u p q = a u p (omega arith)
 
 -- What is so to each of the first n of some things, and to one more.
 module _ (A : ℕ → ℕ → Type 0) (less : (i last last′ : ℕ) → last′ ≤ last → A i last → A i last′) (from : ℕ) where
-  pub each-more : (n best last last′ : ℕ) → Ends from best last ((i : ℕ) → i < n → A i last) → Ends from last last′ (A n last′)
-      → Ends from best last′ ((i : ℕ) → i < n + 1 → A i last′)
+  pub each-more : (n best last last′ : ℕ) → IntervalEnd from best last ((i : ℕ) → i < n → A i last) → IntervalEnd from last last′ (A n last′)
+      → IntervalEnd from best last′ ((i : ℕ) → i < n + 1 → A i last′)
   each-more n best last last′ s t = record {
     reaches = t .reaches;
     within = omega (arith, s .within, t .within);
@@ -92,21 +93,21 @@ module _ (A : ℕ → ℕ → Type 0) (less : (i last last′ : ℕ) → last′
       by i g (no h) = let e : n ≡ i = omega arith in rw e at (t .alike)
 
 module _ (d : Direction) (ws : List ℕ) (f : ℕ) (before : List ℕ) (from : ℕ) where
-  pub among-start : (best : ℕ) → from ≤ best → Ends from best best (AlikeAmong d ws 0 f before from best)
+  pub among-start : (best : ℕ) → from ≤ best → IntervalEnd from best best (AlikeAmong d ws 0 f before from best)
   unfolding AlikeAmong
   among-start best h = record { reaches = h; within = omega arith; alike = λ i g. absurd (omega arith) }
 
-  pub ends-more : (n best last last′ : ℕ) → Ends from best last (AlikeAmong d ws n f before from last)
-      → Ends from last last′ (active d ws n f before ≡ true → AlikeTo (rangeOf ws n f) from last′)
-      → Ends from best last′ (AlikeAmong d ws (n + 1) f before from last′)
+  pub ends-more : (n best last last′ : ℕ) → IntervalEnd from best last (AlikeAmong d ws n f before from last)
+      → IntervalEnd from last last′ (active d ws n f before ≡ true → AlikeTo (rangeOf ws n f) from last′)
+      → IntervalEnd from best last′ (AlikeAmong d ws (n + 1) f before from last′)
   unfolding AlikeAmong
   ends-more n best last last′ s t =
       each-more (λ i l. active d ws i f before ≡ true → AlikeTo (rangeOf ws i f) from l) (λ i l l′ h a p. alike-less _ from l l′ h (a p)) from n best last last′ s t
 
 -- Two policies, one after the other.
 pub ends-both : (d : Direction) (ws ws′ before : List ℕ) (from best last last′ : ℕ)
-    → Ends from best last (SearchAlike d ws before from last) → Ends from last last′ (SearchAlike d ws′ before from last′)
-    → Ends from best last′ (SearchAlike d ws before from last′ × SearchAlike d ws′ before from last′)
+    → IntervalEnd from best last (SearchAlike d ws before from last) → IntervalEnd from last last′ (SearchAlike d ws′ before from last′)
+    → IntervalEnd from best last′ (SearchAlike d ws before from last′ × SearchAlike d ws′ before from last′)
 unfolding SearchAlike
 ends-both d ws ws′ before from best last last′ s t = record {
   reaches = t .reaches;
@@ -114,51 +115,31 @@ ends-both d ws ws′ before from best last last′ s t = record {
   alike = (λ u g h. s .alike u g (omega (arith, t .within)), t .alike);
 }
 
--- A value that was written.
-pub put-value : (ws : List ℕ) (at : ℕ) (v : Value) → at + 2 ≤ length ws → Put at v ws (set (set ws at (v .upper)) (at + 1) (v .lower))
-unfolding valueAt Outside
-put-value ws at v h = record {
-  value =
-      let u : getD (set (set ws at (v .upper)) (at + 1) (v .lower)) at 0 ≡ v .upper =
-      getD-set-other (set ws at (v .upper)) (at + 1) at (v .lower) 0 (λ e. omega arith) ∙ getD-set-same ws at (v .upper) 0 (omega arith) in
-      let l : getD (set (set ws at (v .upper)) (at + 1) (v .lower)) (at + 1) 0 ≡ v .lower =
-      getD-set-same (set ws at (v .upper)) (at + 1) (v .lower) 0 (simp length-set (omega arith)) in
-      rw (u, l);
-  others = λ j o.
-      getD-set-other (set ws at (v .upper)) (at + 1) j (v .lower) 0 (⊎-elim (λ p e. omega arith) (λ p e. omega arith) o)
-      ∙ getD-set-other ws at j (v .upper) 0 (⊎-elim (λ p e. omega arith) (λ p e. omega arith) o);
-}
-
 -- A row with a range written.
-module _ (f n i : ℕ) (ws ws′ ws″ : List ℕ) (low high : Value) (h : f + suc n ≤ 5) where
-  put-others : Put (wordOf i f) low ws ws′ → Put (wordOf i f + 2) high ws′ ws″ → Outside (wordOf i f) (wordOf i f + 4) ws ws″
+module _ (f n i low high : ℕ) (ws ws′ : List ℕ) (h : f + suc n ≤ fieldCount) (room : i * rowWords + rowWords ≤ length ws)
+    (e : ws′ ≡ writtenRange ws (wordOf i f) low high) where
+  others : Outside (wordOf i f) (wordOf i f + rangeWords) ws ws′
   unfolding Outside
-  put-others p q j o =
-      q .others j (⊎-elim (λ g. inl (omega arith)) (λ g. inr (omega arith)) o)
-      ∙ p .others j (⊎-elim (λ g. inl g) (λ g. inr (omega arith)) o)
+  others j o = rw e (range-words ws (wordOf i f) low high j o)
 
-  put-low : Put (wordOf i f) low ws ws′ → Put (wordOf i f + 2) high ws′ ws″ → valueAt ws″ (wordOf i f) ≡ low
-  unfolding Outside
-  put-low p q =
-      value-moved ws′ ws″ (wordOf i f) (wordOf i f) (q .others _ (inl (omega arith))) (q .others _ (inl (omega arith))) ∙ p .value
-
-  front : valueAt ws″ (wordOf i f) ≡ low → valueAt ws″ (wordOf i f + 2) ≡ high → Outside (wordOf i f) (wordOf i f + 4) ws ws″
-      → partRow f (suc n) ws″ i ≡ under (number low) (number high) (partRow (f + 1) n ws i)
+  front : partRow f (suc n) ws′ i ≡ under low high (partRow (f + 1) n ws i)
   unfolding partRow rangesFrom Outside
-  front p q o =
+  front =
+      let p : number (valueAt ws′ (wordOf i f)) ≡ low = rw e (low-own ws (wordOf i f) low high (omega arith)) in
+      let q : number (valueAt ws′ (wordOf i f + 2)) ≡ high = rw e (high-own ws (wordOf i f) low high (omega arith)) in
       rw (
         p,
         q,
-        ranges-moved ws ws″ i i (f + 1) n (omega arith) (λ k a b. o _ (inr (omega arith))),
-        o (i * rowWords) (inl (omega arith)),
-        o (i * rowWords + 1) (inl (omega arith)),
+        row-ranges-moved ws ws′ i i (f + 1) n (omega arith) (λ k a b. others _ (inr (omega arith))),
+        others (i * rowWords) (inl (omega arith)),
+        others (i * rowWords + 1) (inl (omega arith)),
       )
 
-  pub stamp-row : Put (wordOf i f) low ws ws′ → Put (wordOf i f + 2) high ws′ ws″ → Stamped f n i (i + 1) (number low) (number high) ws ws″
+  pub stamp-row : Stamped f n i (i + 1) low high ws ws′
   unfolding Outside
-  stamp-row p q = record {
-    rows = λ j g k. let e : i ≡ j = omega arith in rw e at (front (put-low p q) (q .value) (put-others p q));
-    others = λ j o. put-others p q j (⊎-elim (λ g. inl (omega arith)) (λ g. inr (omega arith)) o);
+  stamp-row = record {
+    rows = λ j g k. let q : i ≡ j = omega arith in rw q at front;
+    others = λ j o. others j (⊎-elim (λ g. inl (omega arith)) (λ g. inr (omega arith)) o);
   }
 
 -- No row, and one row more.
@@ -166,7 +147,7 @@ pub stamped-none : (f n a low high : ℕ) (ws : List ℕ) → Stamped f n a a lo
 unfolding Outside
 stamped-none f n a low high ws = record { rows = λ i p q. absurd (omega arith); others = λ j o. refl }
 
-pub stamped-more : (f n a b low high : ℕ) (ws ws′ ws″ : List ℕ) → f + suc n ≤ 5 → a ≤ b → Stamped f n a b low high ws ws′
+pub stamped-more : (f n a b low high : ℕ) (ws ws′ ws″ : List ℕ) → f + suc n ≤ fieldCount → a ≤ b → Stamped f n a b low high ws ws′
     → Stamped f n b (b + 1) low high ws′ ws″ → Stamped f n a (b + 1) low high ws ws″
 unfolding Outside
 stamped-more f n a b low high ws ws′ ws″ h g s t = record {
@@ -196,7 +177,7 @@ stamped-rows f n low high ws ws′ a (suc c) s =
 
 -- Stamped rows behind rows that were stamped before, and rows behind them that were not.
 module _ (f n a b low high : ℕ) (ws ws′ : List ℕ) (s : Stamped f n a b low high ws ws′) where
-  pub stamped-done : f + suc n ≤ 5 → a ≤ b
+  pub stamped-done : f + suc n ≤ fieldCount → a ≤ b
       → partRows f (suc n) ws′ 0 b ≡ partRows f (suc n) ws 0 a ++ map (under low high) (partRows (f + 1) n ws a (b - a))
   unfolding Outside
   stamped-done h g =
@@ -206,12 +187,12 @@ module _ (f n a b low high : ℕ) (ws ws′ : List ℕ) (s : Stamped f n a b low
       ∙ rows-split f (suc n) ws′ 0 a (b - a)
       ∙ rw (z, rows-moved ws ws′ f (suc n) h 0 0 a (λ k p. s .others _ (inl (omega arith))), stamped-rows f n low high ws ws′ a (b - a) (λ i p q. s .rows i p (omega arith)))
 
-  pub stamped-behind : (g m : ℕ) → g + m ≤ 5 → (count : ℕ) → partRows g m ws′ b count ≡ partRows g m ws b count
+  pub stamped-behind : (g m : ℕ) → g + m ≤ fieldCount → (count : ℕ) → partRows g m ws′ b count ≡ partRows g m ws b count
   unfolding Outside
   stamped-behind g m h count = rows-moved ws ws′ g m h b b count (λ k p. s .others _ (inr (omega arith)))
 
 -- An interval ends and another one begins.
-pub begun : (f n : ℕ) (old : Kept) (count : ℕ) (from before : Value) (ws ws′ : List ℕ) → f + suc n ≤ 5 → old .last ≤ old .next
+pub begun : (f n : ℕ) (old : Kept) (count : ℕ) (from before : Value) (ws ws′ : List ℕ) → f + suc n ≤ fieldCount → old .last ≤ old .next
     → number before ≡ number from - 1
     → partRows (f + 1) n ws (old .last) (old .next - old .last) ≢ partRows (f + 1) n ws (old .next) count
     → Stamped f n (old .last) (old .next) (number (old .low)) (number before) ws ws′
@@ -236,9 +217,9 @@ module _ (limit f n : ℕ) (form : List (Row Parting)) (ws : List ℕ) where
   laid-over h = record { answer = rw (lt-leb (length form) limit h); written = λ g. absurd (omega arith) }
 
 -- The words for a field's layout: those for the rows within the limit, and those for the layout behind it, which are no fewer.
-pub words-next : (limit f : ℕ) → f < 5 → (wordsFor limit (5 - f) ≡ limit * 22 + wordsFor limit (5 - (f + 1))) × (limit * 22 ≤ wordsFor limit (5 - (f + 1)))
+pub words-next : (limit f : ℕ) → f < fieldCount → (wordsFor limit (fieldCount - f) ≡ limit * rowWords + wordsFor limit (fieldCount - (f + 1))) × (limit * rowWords ≤ wordsFor limit (fieldCount - (f + 1)))
 unfolding wordsFor
 words-next limit f h =
-    let e : 5 - f + 1 ≡ suc (5 - (f + 1) + 1) = omega arith in
-    let g : 5 - (f + 1) + 1 ≡ suc (5 - (f + 1)) = omega arith in
-    (rw e (suc-mul (5 - (f + 1) + 1) (limit * 22) ∙ omega arith), rw g (omega (arith, suc-mul (5 - (f + 1)) (limit * 22))))
+    let e : fieldCount - f + 1 ≡ suc (fieldCount - (f + 1) + 1) = omega arith in
+    let g : fieldCount - (f + 1) + 1 ≡ suc (fieldCount - (f + 1)) = omega arith in
+    (rw e (suc-mul (fieldCount - (f + 1) + 1) (limit * rowWords) ∙ omega arith), rw g (omega (arith, suc-mul (fieldCount - (f + 1)) (limit * rowWords))))

@@ -5,6 +5,7 @@ use mathlib.Core.Path.{_≡_}
 use mathlib.Core.Bool.{Bool, true, false}
 use mathlib.Core.List.{List}
 use lib.ListN.{length}
+use Rattle.selectors.specs.Words.{fieldCount}
 use Rattle.normal_form.specs.Search.{Row, Combination}
 use Rattle.cover.specs.Boxes.{InBox}
 use Rattle.layout.specs.Parting.{Parting}
@@ -44,4 +45,4 @@ pub record PlacedStretch (f n : ℕ) (old : Kept) (laid : Stretch) (v : ℕ) (ws
 
 -- A box holds every combination of the fields from any field on.
 unfoldable pub Whole : Point → List ℕ → Type 0
-Whole highest bs = (f : ℕ) (us : List ℕ) → Combination (sizesFrom (highest .words) f (5 - f)) us → InBox f bs us
+Whole highest bs = (f : ℕ) (us : List ℕ) → Combination (sizesFrom (highest .words) f (fieldCount - f)) us → InBox f bs us

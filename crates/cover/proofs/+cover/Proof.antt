@@ -11,8 +11,8 @@ use Rattle.cover.specs.BoxLaws.{Rest, rest-all, rest-surveyed, rest-part
 use Rattle.cover.proofs.cover.Reads as cover
 use Rattle.cover.proofs.cover.Kinds as cover-kinds
 use Rattle.cover.proofs.+cover.Lts-cover as cover-lts
-use Rattle.cover.proofs.part.Reads as part-reads
-use Rattle.cover.proofs.survey.Reads as survey-reads
+use Rattle.cover.proofs.parts.part.Reads as part-reads
+use Rattle.cover.proofs.stands.survey.Reads as survey-reads
 use Rattle.cover.proofs.+cover.{statement}
 use Rattle.cover.proofs.+cover.Tie.{close}
 

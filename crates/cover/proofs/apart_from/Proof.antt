@@ -7,32 +7,17 @@ use Rattle.cover.proofs.apart_from.Tie as tie
 in-second-requires : tie.Need-in-second-requires
 in-second-requires c κs = search needs
 
-row-of-requires : tie.Need-row-of-requires
-row-of-requires c κs = search needs
-
-apart-among-requires : tie.Need-apart-among-requires
-apart-among-requires c κs = search needs
+apart-in-requires : tie.Need-apart-in-requires
+apart-in-requires c κs = search needs
 
 returns : tie.Need-returns
-returns c = rw (sym (c .before .before .before .in-second .ensures) ∙ c .before .before .if1 .taken) (rw (c .before .row-of .ensures) at (c .apart-among .ensures))
+returns c = rw (sym (c .before .before .in-second .ensures) ∙ c .before .if1 .taken) (c .apart-in .ensures)
 
-row-of-requires-2 : tie.Need-row-of-requires-2
-row-of-requires-2 c κs = search needs
-
-apart-among-requires-2 : tie.Need-apart-among-requires-2
-apart-among-requires-2 c κs = search needs
+apart-in-requires-2 : tie.Need-apart-in-requires-2
+apart-in-requires-2 c κs = search needs
 
 returns-2 : tie.Need-returns-2
-returns-2 c = rw (sym (c .before .before .before .in-second .ensures) ∙ c .before .before .if1 .left) (rw (c .before .row-of2 .ensures) at (c .apart-among2 .ensures))
+returns-2 c = rw (sym (c .before .before .in-second .ensures) ∙ c .before .if1 .left) (c .apart-in2 .ensures)
 
 pub apart-from-spec : {M : Type 1} → statement M
-apart-from-spec =
-    tie.close
-    (tie.spec
-    in-second-requires
-    row-of-requires
-    apart-among-requires
-    returns
-    row-of-requires-2
-    apart-among-requires-2
-    returns-2)
+apart-from-spec = tie.close (tie.spec in-second-requires apart-in-requires returns apart-in-requires-2 returns-2)

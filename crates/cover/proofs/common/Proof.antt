@@ -7,32 +7,17 @@ use Rattle.cover.proofs.common.Tie as tie
 in-second-requires : tie.Need-in-second-requires
 in-second-requires c κs = search needs
 
-row-of-requires : tie.Need-row-of-requires
-row-of-requires c κs = search needs
-
-common-among-requires : tie.Need-common-among-requires
-common-among-requires c κs = search needs
+common-in-requires : tie.Need-common-in-requires
+common-in-requires c κs = search needs
 
 returns : tie.Need-returns
-returns c = rw (sym (c .before .before .before .in-second .ensures) ∙ c .before .before .if1 .taken) (rw (c .before .row-of .ensures) at (c .common-among .ensures))
+returns c = rw (sym (c .before .before .in-second .ensures) ∙ c .before .if1 .taken) (c .common-in .ensures)
 
-row-of-requires-2 : tie.Need-row-of-requires-2
-row-of-requires-2 c κs = search needs
-
-common-among-requires-2 : tie.Need-common-among-requires-2
-common-among-requires-2 c κs = search needs
+common-in-requires-2 : tie.Need-common-in-requires-2
+common-in-requires-2 c κs = search needs
 
 returns-2 : tie.Need-returns-2
-returns-2 c = rw (sym (c .before .before .before .in-second .ensures) ∙ c .before .before .if1 .left) (rw (c .before .row-of2 .ensures) at (c .common-among2 .ensures))
+returns-2 c = rw (sym (c .before .before .in-second .ensures) ∙ c .before .if1 .left) (c .common-in2 .ensures)
 
 pub common-spec : {M : Type 1} → statement M
-common-spec =
-    tie.close
-    (tie.spec
-    in-second-requires
-    row-of-requires
-    common-among-requires
-    returns
-    row-of-requires-2
-    common-among-requires-2
-    returns-2)
+common-spec = tie.close (tie.spec in-second-requires common-in-requires returns common-in-requires-2 returns-2)

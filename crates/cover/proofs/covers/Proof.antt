@@ -7,32 +7,17 @@ use Rattle.cover.proofs.covers.Tie as tie
 in-second-requires : tie.Need-in-second-requires
 in-second-requires c κs = search needs
 
-row-of-requires : tie.Need-row-of-requires
-row-of-requires c κs = search needs
-
-covers-among-requires : tie.Need-covers-among-requires
-covers-among-requires c κs = search needs
+covers-in-requires : tie.Need-covers-in-requires
+covers-in-requires c κs = search needs
 
 returns : tie.Need-returns
-returns c = rw (sym (c .before .before .before .in-second .ensures) ∙ c .before .before .if1 .taken) (rw (c .before .row-of .ensures) at (c .covers-among .ensures))
+returns c = rw (sym (c .before .before .in-second .ensures) ∙ c .before .if1 .taken) (c .covers-in .ensures)
 
-row-of-requires-2 : tie.Need-row-of-requires-2
-row-of-requires-2 c κs = search needs
-
-covers-among-requires-2 : tie.Need-covers-among-requires-2
-covers-among-requires-2 c κs = search needs
+covers-in-requires-2 : tie.Need-covers-in-requires-2
+covers-in-requires-2 c κs = search needs
 
 returns-2 : tie.Need-returns-2
-returns-2 c = rw (sym (c .before .before .before .in-second .ensures) ∙ c .before .before .if1 .left) (rw (c .before .row-of2 .ensures) at (c .covers-among2 .ensures))
+returns-2 c = rw (sym (c .before .before .in-second .ensures) ∙ c .before .if1 .left) (c .covers-in2 .ensures)
 
 pub covers-spec : {M : Type 1} → statement M
-covers-spec =
-    tie.close
-    (tie.spec
-    in-second-requires
-    row-of-requires
-    covers-among-requires
-    returns
-    row-of-requires-2
-    covers-among-requires-2
-    returns-2)
+covers-spec = tie.close (tie.spec in-second-requires covers-in-requires returns covers-in-requires-2 returns-2)

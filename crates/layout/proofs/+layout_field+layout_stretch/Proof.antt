@@ -19,7 +19,8 @@ use Rattle.agree.proofs.cutting.Reads as cutting-reads
 use Rattle.layout.specs.AlikeLaws.{cuts-at}
 use Rattle.layout.specs.FormLaws.{values-length}
 use Rattle.layout.specs.StepsLaws.{words-next}
-use Rattle.layout.specs.Decode.{valuesFrom}
+use Rattle.selectors.specs.Words.{fieldCount, valuesFrom}
+use Rattle.policy.specs.Words.{rowWords}
 use Rattle.layout.specs.Lists.{BranchAt}
 use Rattle.layout.specs.ListsLaws.{lists-within, branch-next}
 use Rattle.layout.specs.Progress.{Progress, progress-start, over-behind, over-so-far, laid-out, laid-last, laid-field, value-form, Room, room-for, turn-stretch, one-more}
@@ -32,17 +33,17 @@ use Rattle.layout.proofs.+layout_field+layout_stretch.Lts-layout_field 
 use Rattle.layout.proofs.layout_stretch.Reads as layout-stretch
 use Rattle.layout.proofs.layout_stretch.Kinds as layout-stretch-kinds
 use Rattle.layout.proofs.+layout_field+layout_stretch.Lts-layout_stretch as layout-stretch-lts
-use Rattle.layout.proofs.interval_end.Reads as interval-end-reads
-use Rattle.layout.proofs.leaf.Reads as leaf-reads
-use Rattle.layout.proofs.narrow.Reads as narrow-reads
-use Rattle.layout.proofs.is_over.Reads as is-over-reads
-use Rattle.layout.proofs.joined.Reads as joined-reads
-use Rattle.layout.proofs.known_alike.Reads as known-alike-reads
-use Rattle.layout.proofs.place_stretch.Reads as place-stretch-reads
-use Rattle.layout.proofs.stretch_of.Reads as stretch-of-reads
-use Rattle.layout.proofs.point_value.Reads as point-value-reads
-use Rattle.layout.proofs.stamp.Reads as stamp-reads
-use Rattle.layout.proofs.with_value.Reads as with-value-reads
+use Rattle.layout.proofs.intervals.interval_end.Reads as interval-end-reads
+use Rattle.layout.proofs.stretches.leaf.Reads as leaf-reads
+use Rattle.layout.proofs.lists.narrow.Reads as narrow-reads
+use Rattle.layout.proofs.stretches.is_over.Reads as is-over-reads
+use Rattle.layout.proofs.stretches.joined.Reads as joined-reads
+use Rattle.layout.proofs.stretches.known_alike.Reads as known-alike-reads
+use Rattle.layout.proofs.room.place_stretch.Reads as place-stretch-reads
+use Rattle.layout.proofs.stretches.stretch_of.Reads as stretch-of-reads
+use Rattle.selectors.proofs.words.value_at.Reads as value-at-reads
+use Rattle.layout.proofs.room.stamp.Reads as stamp-reads
+use Rattle.layout.proofs.lists.with_value.Reads as with-value-reads
 
 abbrev μ-layout-field : Measures 5 layout-field-kinds.ps ℕ
 μ-layout-field κs a = 11 - 2 * a .1 .1 .1 .0 .field
@@ -81,8 +82,8 @@ layout-stretch-below t =
 -- What the functions that each one calls ask and tell.
 abbrev layout-field-claims : ℕ → layout-field-lts.Claims
 layout-field-claims t = (
-  point-value-reads.Asked,
-  point-value-reads.Learnt,
+  value-at-reads.Asked,
+  value-at-reads.Learnt,
   cutting-reads.Asked,
   cutting-reads.Learnt,
   interval-end-reads.Asked,
@@ -143,16 +144,16 @@ abbrev Gone : ℕ → Type 0
 Gone t = layout-field-lts.After-next (layout-field-claims t) (layout-field-at t) layout-field.Post layout-field-Inv-loop layout-field-μ-loop
 
 -- The part of the room behind the rows so far.
-room : (t : ℕ) (c : Begun t) → Room (c .before .before .before .before .before .before .before .before .before .before .before .before .args .task .limit) (c .before .before .before .before .before .before .before .before .before .before .before .before .args .branch .field) (c .loop .kept .next * 22) (c .loop .room)
+room : (t : ℕ) (c : Begun t) → Room (c .before .before .before .before .before .before .before .before .before .before .before .before .args .task .limit) (c .before .before .before .before .before .before .before .before .before .before .before .before .args .branch .field) (c .loop .kept .next * rowWords) (c .loop .room)
 room t c = let s = c .before .before .before .before .before .before .before .before .before .before .before .before in room-for _ _ _ _ _ (s .pre .1 .0 .0) (c .loop .inv .1 .0) (s .pre .1 .1) (c .loop .inv .0)
 
 -- The room is as long as before when that part is back.
 back : (t : ℕ) (c : Stretched t)
-    → length (putMid (c .before .before .before .before .before .before .loop .kept .next * 22) (length (c .before .before .before .before .before .before .loop .room) - c .before .before .before .before .before .before .loop .kept .next * 22) (c .before .before .before .before .before .before .loop .room) (c .layout-stretch .last .1 .1 .1 .1 .1 .1 .1 .0))
+    → length (putMid (c .before .before .before .before .before .before .loop .kept .next * rowWords) (length (c .before .before .before .before .before .before .loop .room) - c .before .before .before .before .before .before .loop .kept .next * rowWords) (c .before .before .before .before .before .before .loop .room) (c .layout-stretch .last .1 .1 .1 .1 .1 .1 .1 .0))
     ≡ length (c .before .before .before .before .before .before .loop .room)
 back t c =
     let l = c .before .before .before .before .before .before .loop in
-    same-len-mid (l .kept .next * 22) (length (l .room) - l .kept .next * 22) (l .room) (c .layout-stretch .last .1 .1 .1 .1 .1 .1 .1 .0)
+    same-len-mid (l .kept .next * rowWords) (length (l .room) - l .kept .next * rowWords) (l .room) (c .layout-stretch .last .1 .1 .1 .1 .1 .1 .1 .0)
     (c .layout-stretch .kept .1 .1 .1 .1 .1 .1 .1 .0)
 
 -- After `place_stretch` the loop has come to the value behind the interval.
@@ -172,17 +173,23 @@ placed t c =
 -- The next turn's first value is one more than the interval's last, which is below the field's highest.
 further : (t : ℕ) (c : Gone t)
     → (let i = c .before .before .before .before .before .before .before .before .before .before .before .before .before .before .before .before in
-    (number (c .next .result) ≡ number (i .interval-end .result) + 1) × (number (i .interval-end .result) < number (i .before .before .before .before .before .before .before .before .before .point-value .result)))
+    (number (c .next .result) ≡ number (i .interval-end .result) + 1) × (number (i .interval-end .result) < number (i .before .before .before .before .before .before .before .before .before .value-at .result)))
 further t c =
     let i = c .before .before .before .before .before .before .before .before .before .before .before .before .before .before .before .before in
-    let v = i .before .before .before .before .before .before .before .before .before .point-value in
+    let v = i .before .before .before .before .before .before .before .before .before .value-at in
     let b : Words (v .result) = record { upper-fits = omega (arith, v .ok); lower-fits = omega (arith, v .ok) } in
     let w = number-bound (v .result) b in
     let g = ltb-true (number (i .interval-end .result)) (number (v .result)) (sym (c .before .before .less .ensures) ∙ not-false _ (c .before .if3 .left)) in
     (one-more (2 ^ 128) _ _ _ (c .next .ensures) g w, g)
 
-layout-field-point-value-requires : (t : ℕ) → layout-field-lts.Need-point-value-requires (layout-field-claims t) (layout-field-at t) layout-field.Post layout-field-Inv-loop layout-field-μ-loop
-layout-field-point-value-requires t c κs = search needs
+layout-field-slice-aggregate-value-at : (t : ℕ) → layout-field-lts.Need-slice-aggregate-value-at (layout-field-claims t) (layout-field-at t) layout-field.Post layout-field-Inv-loop layout-field-μ-loop
+layout-field-slice-aggregate-value-at t c = search needs
+
+layout-field-mul-value-at : (t : ℕ) → layout-field-lts.Need-mul-value-at (layout-field-claims t) (layout-field-at t) layout-field.Post layout-field-Inv-loop layout-field-μ-loop
+layout-field-mul-value-at t c = search needs
+
+layout-field-value-at-requires : (t : ℕ) → layout-field-lts.Need-value-at-requires (layout-field-claims t) (layout-field-at t) layout-field.Post layout-field-Inv-loop layout-field-μ-loop
+layout-field-value-at-requires t c κs = search needs
 
 layout-field-cutting-requires : (t : ℕ) → layout-field-lts.Need-cutting-requires (layout-field-claims t) (layout-field-at t) layout-field.Post layout-field-Inv-loop layout-field-μ-loop
 layout-field-cutting-requires t c κs = search needs
@@ -240,7 +247,7 @@ layout-field-returns t c =
     let l = y .before .before .before .before .before .before in
     let s = l .before .before .before .before .before .before .before .before .before .before .before .before in
     over-behind (now (s .args .first)) (now (s .args .second)) (s .args .task) (valuesFrom (s .args .branch .point .words) 0 (s .args .branch .field)) (s .args .branch .field) (s .pre .1 .0 .0)
-    (s .args .task .limit) (number (l .loop .from)) (omega (arith, l .loop .inv .1 .1 .0, ap number (l .before .before .before .before .before .before .point-value .ensures)))
+    (s .args .task .limit) (number (l .loop .from)) (omega (arith, l .loop .inv .1 .1 .0, ap number (l .before .before .before .before .before .before .value-at .ensures)))
     (y .layout-stretch .ensures .over (over-told _ (sym (c .before .is-over .ensures) ∙ c .if1 .taken))) _
 
 layout-field-place-stretch-requires : (t : ℕ) → layout-field-lts.Need-place-stretch-requires (layout-field-claims t) (layout-field-at t) layout-field.Post layout-field-Inv-loop layout-field-μ-loop
@@ -260,7 +267,7 @@ layout-field-returns-2 : (t : ℕ) → layout-field-lts.Need-returns-2 (layout-f
 layout-field-returns-2 t c =
     let p = c .before .before .before .before in
     let i = p .before .before .before .before .before .before .before .before .before in
-    over-so-far _ _ _ _ _ (p .before .before .before .before .before .before .before .before .before .before .before .before .before .before .before .before .before .before .before .before .before .before .before .before .pre .1 .0 .0) _ _ _ _ (placed t p) (omega (arith, i .interval-end .ensures .within, ap number (i .before .before .before .before .before .before .before .before .before .point-value .ensures))) (c .if2 .taken) _
+    over-so-far _ _ _ _ _ (p .before .before .before .before .before .before .before .before .before .before .before .before .before .before .before .before .before .before .before .before .before .before .before .before .pre .1 .0 .0) _ _ _ _ (placed t p) (omega (arith, i .interval-end .ensures .within, ap number (i .before .before .before .before .before .before .before .before .before .value-at .ensures))) (c .if2 .taken) _
 
 layout-field-less-requires : (t : ℕ) → layout-field-lts.Need-less-requires (layout-field-claims t) (layout-field-at t) layout-field.Post layout-field-Inv-loop layout-field-μ-loop
 layout-field-less-requires t c κs = search needs
@@ -279,7 +286,7 @@ layout-field-returns-3 : (t : ℕ) → layout-field-lts.Need-returns-3 (layout-f
 layout-field-returns-3 t c =
     let p = c .before .before .before .before .before .before .before .before .before .before in
     let i = p .before .before .before .before .before .before .before .before .before .interval-end in
-    let v = p .before .before .before .before .before .before .before .before .before .before .before .before .before .before .before .before .before .before .point-value in
+    let v = p .before .before .before .before .before .before .before .before .before .before .before .before .before .before .before .before .before .before .value-at in
     let g = ltb-false (number (i .result)) (number (v .result)) (sym (c .before .before .before .before .before .less .ensures) ∙ not-true _ (c .before .before .before .before .if3 .taken)) in
     let e : number (i .result) ≡ number (v .result) = omega (arith, i .ensures .within) in
     laid-out _ _ _ _ _ (p .before .before .before .before .before .before .before .before .before .before .before .before .before .before .before .before .before .before .before .before .before .before .before .before .pre .1 .0 .0) _ _ _ _ _ (ap number (v .ensures)) (rw e at (placed t p)) (c .before .before .before .before .before .before .if2 .left) (c .before .before .stamp .ensures)
@@ -331,7 +338,7 @@ layout-stretch-leaf-requires t c κs =
     let n = c .before .before .before .before in
     let s = n .before .before .before .before .before .before .before .before .before .before in
     let w = words-next (s .args .task .limit) (s .args .branch .field) (s .pre .1 .0 .0) in
-    (omega (arith, s .pre .1 .1), behind t n 5 (sym (c .before .before .before .if2 .taken)))
+    (omega (arith, s .pre .1 .1), behind t n fieldCount (sym (c .before .before .before .if2 .taken)))
 
 layout-stretch-stretch-of-requires : (t : ℕ) → layout-stretch-lts.Need-stretch-of-requires (layout-stretch-claims t) (layout-stretch-at t) layout-stretch.Post
 layout-stretch-stretch-of-requires t c κs = search needs
@@ -386,7 +393,9 @@ pub +layout-field+layout-stretch-spec : {M : Type 1} → statement M
     layout-field.Post
     layout-field-Inv-loop
     layout-field-μ-loop
-    (layout-field-point-value-requires t)
+    (layout-field-slice-aggregate-value-at t)
+    (layout-field-mul-value-at t)
+    (layout-field-value-at-requires t)
     (layout-field-cutting-requires t)
     (layout-field-cutting-requires-2 t)
     (layout-field-loop-holds t)
