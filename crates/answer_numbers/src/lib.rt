@@ -4,20 +4,20 @@ ghost use Rattle.policy_text.specs.Editions.{refusalNumber, refusalCarries};
 ghost use Rattle.policy_parse.specs.Parsing.{parsedNumber};
 ghost use Rattle.policy_print.specs.Printing.{printedNumber};
 ghost use Rattle.decorrelate.specs.Form.{directionNumber};
-ghost use Rattle.normaliser.specs.Normalise.{normalisedNumber, normalisedCarries};
+ghost use Rattle.normal_form_file.specs.Normalise.{normalisedNumber, normalisedCarries};
 ghost use Rattle.same_policy.specs.Same.{comparedNumber};
-ghost use Rattle.spd.specs.Spd.{acceptanceNumber, acceptanceCarries};
+ghost use Rattle.acceptance.specs.Spd.{acceptanceNumber, acceptanceCarries};
 ghost use Rattle.sad.specs.Pairs.{outcomeNumber};
 ghost use Rattle.verdicts.specs.Verdict.{verdictNumber, carried};
 ghost use Rattle.answer_numbers.specs.Carries.{parsedCarries, printedCarries, comparedWords};
-use normaliser::Normalised;
+use acceptance::Acceptance;
+use normal_form_file::Normalised;
 use policy_print::Printed;
 use policy_text::Parsed;
 use policy_text::Refusal;
 use sad::Outcome;
 use same_policy::Compared;
 use selectors::Direction;
-use spd::Acceptance;
 use verdicts::Verdict;
 
 pub fn direction_number(direction: Direction) -> u64

@@ -39,7 +39,7 @@ use denote.Triple.Clauses.{Clauses, ensured, lasts, closing}
 use denote.Exit.{yes}
 use Rattle.policy.specs.Words.{rowLimit}
 use Rattle.sad.specs.Pairs.{tableWords}
-use Rattle.spd_words.specs.Words.{spdSize}
+use Rattle.spd.specs.Words.{spdSize}
 use Rattle.spd_cache.specs.declared.Cache.{Cache}
 use Rattle.gateway.specs.declared.Answered.{Answered}
 use Rattle.spd_cache.proofs.Cache as T

@@ -3,15 +3,15 @@ ghost use mathlib.Core.Path.{_≡_};
 ghost use Rattle.selectors.specs.Value.{combination};
 ghost use Rattle.sad.specs.Pairs.{pairs};
 ghost use Rattle.policy.specs.Words.{rowLimit};
-ghost use Rattle.spd_words.specs.Words.{rowsOf, addressOf};
+ghost use Rattle.spd.specs.Words.{rowsOf, addressOf};
 ghost use Rattle.spd_cache.specs.Cache.{lookedUp};
 ghost use Rattle.gateway.specs.Cached.{outboundCached, inboundCached};
 use policy::Action;
 use sad::TABLE_WORDS;
 use selectors::Direction;
 use selectors::Selectors;
+use spd::SPD_WORDS;
 use spd_cache::Cache;
-use spd_words::SPD_WORDS;
 use verdicts::Verdict;
 
 pub fn lookup(cache: &mut Cache, rows: &[u64], direction: Direction, selectors: Selectors) -> Action

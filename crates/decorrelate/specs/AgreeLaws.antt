@@ -10,10 +10,10 @@ use lib.Dec.{eqb}
 use lib.ListN.{length}
 use borrow.Author.Tests.{ne-eqb, eq-eqb, eqb-true}
 use Rattle.selectors.specs.declared.Direction.{Direction}
-use Rattle.normal_form.specs.Shape.{normal-form-empty}
+use Rattle.normal_form.specs.ShapeLaws.{normal-form-empty}
 use Rattle.policy.specs.declared.Action.{Action}
 use Rattle.policy.specs.declared.Action.the-variants.{Discard}
-use Rattle.policy.specs.Action.{action-≟}
+use Rattle.policy.specs.ActionLaws.{action-≟}
 use Rattle.policy.specs.Policy.{PolicyRow, orderedSearch}
 use Rattle.policy.specs.Words.{actionOf, actionWord}
 use Rattle.policy.specs.WordsLaws.{word-action}

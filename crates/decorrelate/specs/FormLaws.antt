@@ -16,11 +16,11 @@ use Rattle.selectors.specs.Words.{valueAt, rangesAt}
 use Rattle.selectors.specs.WordsLaws.{AllWords}
 use Rattle.selectors.specs.declared.Direction.{Direction}
 use Rattle.normal_form.specs.Search.{Row, row, Combination}
-use Rattle.normal_form.specs.Shape.{Fits, fits-length, normal-form-fits}
+use Rattle.normal_form.specs.ShapeLaws.{Fits, fits-length, normal-form-fits}
 use Rattle.normal_form.specs.MapLaws.{mapLeaf}
 use Rattle.policy.specs.declared.Action.{Action}
 use Rattle.policy.specs.declared.Action.the-variants.{Discard}
-use Rattle.policy.specs.Action.{action-≟}
+use Rattle.policy.specs.ActionLaws.{action-≟}
 use Rattle.policy.specs.Policy.{orderedSearch, bothWays}
 use Rattle.policy.specs.PolicyLaws.{searching-both-ways}
 use Rattle.policy.specs.WrittenLaws.{row-exact, AllFive, readRow, written-length, written-rows}

@@ -1,2 +1,2 @@
 pub mod Cached
-pub mod Trigger
+pub mod TriggerLaws

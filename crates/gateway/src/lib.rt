@@ -3,7 +3,7 @@ ghost use mathlib.Core.Path.{_≡_};
 ghost use Rattle.packet.specs.Read.{readTrigger};
 ghost use Rattle.sad.specs.Pairs.{pairs, fitsAt};
 ghost use Rattle.policy.specs.Words.{rowLimit};
-ghost use Rattle.spd_words.specs.Words.{rowsOf, addressOf};
+ghost use Rattle.spd.specs.Words.{rowsOf, addressOf};
 ghost use Rattle.verdicts.specs.Calls.{triggerRead, fromSaBy};
 ghost use Rattle.gateway.specs.Cached.{outboundCached, inboundCached};
 use own_ipsec::Own;
@@ -11,8 +11,8 @@ use packet::Reading;
 use sad::Place;
 use sad::TABLE_WORDS;
 use selectors::Direction;
+use spd::SPD_WORDS;
 use spd_cache::Cache;
-use spd_words::SPD_WORDS;
 use verdicts::Verdict;
 
 // A packet's verdict, with the cache handed back.
@@ -38,7 +38,7 @@ pub fn outbound(
         };
     };
     let selectors = packet.selectors;
-    let rows = spd_words::rows_of(policy, Direction::Out);
+    let rows = spd::rows_of(policy, Direction::Out);
     let looked = cache.lookup(rows, Direction::Out, selectors);
     let action = looked.action;
     let after = looked.cache;
@@ -64,11 +64,11 @@ pub fn inbound(
             cache,
         };
     };
-    let own = own_ipsec::answer(spd_words::address_of(policy), table, bytes, packet);
+    let own = own_ipsec::answer(spd::address_of(policy), table, bytes, packet);
     if let Own::Answer(verdict) = own {
         return Answered { verdict, cache };
     }
-    let rows = spd_words::rows_of(policy, Direction::In);
+    let rows = spd::rows_of(policy, Direction::In);
     let looked = cache.lookup(rows, Direction::In, packet.selectors);
     let action = looked.action;
     let after = looked.cache;

@@ -2,15 +2,15 @@
 ghost use mathlib.Core.Path.{_≡_};
 ghost use Rattle.sad.specs.Pairs.{pairs};
 ghost use Rattle.policy.specs.Words.{rowLimit};
-ghost use Rattle.spd_words.specs.Words.{rowsOf, addressOf};
+ghost use Rattle.spd.specs.Words.{rowsOf, addressOf};
 ghost use Rattle.spd_cache.specs.Lent.{cacheFrom, cacheWords};
 ghost use Rattle.gateway.specs.Cached.{outboundCached, inboundCached};
 use own_ipsec::Own;
 use packet::Reading;
 use sad::TABLE_WORDS;
 use selectors::Direction;
+use spd::SPD_WORDS;
 use spd_cache::lent::CACHE_WORDS;
-use spd_words::SPD_WORDS;
 use verdicts::Verdict;
 
 // A packet going out (`gateway::outbound`).
@@ -30,7 +30,7 @@ pub fn outbound(
         return Verdict::NotReadable;
     };
     let selectors = packet.selectors;
-    let rows = spd_words::rows_of(policy, Direction::Out);
+    let rows = spd::rows_of(policy, Direction::Out);
     let action = spd_cache::lent::lookup(cache, rows, Direction::Out, selectors);
     verdicts::outbound_action(table, selectors, action)
 }
@@ -51,11 +51,11 @@ pub fn inbound(
     let Reading::Readable(packet) = reading else {
         return Verdict::NotReadable;
     };
-    let own = own_ipsec::answer(spd_words::address_of(policy), table, bytes, packet);
+    let own = own_ipsec::answer(spd::address_of(policy), table, bytes, packet);
     if let Own::Answer(verdict) = own {
         return verdict;
     }
-    let rows = spd_words::rows_of(policy, Direction::In);
+    let rows = spd::rows_of(policy, Direction::In);
     let action = spd_cache::lent::lookup(cache, rows, Direction::In, packet.selectors);
     verdicts::inbound_action(action)
 }

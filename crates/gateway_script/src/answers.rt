@@ -1,8 +1,8 @@
 // The line of an answer: document 01's number, and what the answer carries.
+use acceptance::Acceptance;
 use policy_text::Refusal;
 use sad::Outcome;
 use selectors::Direction;
-use spd::Acceptance;
 use verdicts::Verdict;
 
 pub fn say(words: &[u8]) {

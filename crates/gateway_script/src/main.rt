@@ -22,9 +22,10 @@ ghost use Prim.Native.Nat.{_≤_, _<_};
 ghost use Rattle.policy.specs.Words.{rowLimit};
 ghost use Rattle.policy_text.specs.Editions.{parsePolicy};
 ghost use Rattle.sad.specs.Pairs.{pairs};
-ghost use Rattle.spd.specs.Spd.{spdAfter, cachesAfter};
-ghost use Rattle.spd_words.specs.Words.{rowsOf, addressOf};
+ghost use Rattle.acceptance.specs.Spd.{spdAfter, cachesAfter};
+ghost use Rattle.spd.specs.Words.{rowsOf, addressOf};
 ghost use Rattle.gateway.specs.Cached.{outboundCached, inboundCached};
+use acceptance::Caches;
 use answers::say;
 use answers::show_acceptance;
 use answers::show_outcome;
@@ -49,8 +50,7 @@ use selectors::Direction;
 use selectors::Ends;
 use selectors::Ranges;
 use selectors::Value;
-use spd::Caches;
-use spd_words::SPD_WORDS;
+use spd::SPD_WORDS;
 
 // What a line asks for.
 enum Operation {
@@ -102,7 +102,7 @@ fn from_input(file: i32) {
 fn replay(script: &[u8]) {
     let mut policy = [0u64; SPD_WORDS];
     let mut table = [0u64; TABLE_WORDS];
-    let mut caches = spd::fresh(&mut policy, 0);
+    let mut caches = acceptance::fresh(&mut policy, 0);
     let mut at: usize = 0;
     while at < script.len() {
         let line = before(&script[at..], b'\n');
@@ -220,7 +220,7 @@ fn gate(
     };
     empty(table);
     say(b"= ok");
-    spd::fresh(policy, own)
+    acceptance::fresh(policy, own)
 }
 
 fn empty(table: &mut [u64; TABLE_WORDS]) {
@@ -333,7 +333,7 @@ fn accept(policy: &mut [u64; SPD_WORDS], caches: Caches, bytes: &[u8]) -> Caches
     ensures { λ r. ⌜ r ≡ cachesAfter rowLimit caches (parsePolicy rowLimit (now (bytes .entry))) ⌝ }
     ensures { λ _. ⌜ now (policy .exit) ≡ spdAfter rowLimit rowLimit (now (policy .entry)) (parsePolicy rowLimit (now (bytes .entry))) ⌝ }
 {
-    let settled = spd::accept(policy, caches, bytes);
+    let settled = acceptance::accept(policy, caches, bytes);
     let acceptance = settled.acceptance;
     show_acceptance(acceptance);
     settled.caches

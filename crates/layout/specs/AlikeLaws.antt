@@ -15,7 +15,7 @@ use Rattle.selectors.specs.Words.{fieldCount, valueAt, rangesFrom, valueOf}
 use Rattle.selectors.specs.declared.Direction.{Direction}
 use Rattle.normal_form.specs.Search.{Combination, find}
 use Rattle.normal_form.specs.Laws.{normal-form-ext}
-use Rattle.normal_form.specs.Shape.{normal-form-empty}
+use Rattle.normal_form.specs.ShapeLaws.{normal-form-empty}
 use Rattle.policy.specs.Policy.{appliesTo, matches, orderedSearch}
 use Rattle.policy.specs.Words.{actionWord, directionOf, rowAt, rowsFrom, policyRows, rowWords, rowLimit}
 use Rattle.policy.specs.WordsLaws.{action-word}

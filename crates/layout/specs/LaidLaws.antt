@@ -15,7 +15,7 @@ use Rattle.layout.specs.Parting.{Parting, differenceForm}
 use Rattle.layout.specs.Decode.{partRow, partRows}
 use Rattle.layout.specs.Laid.{laidRow, laidFrom, sizesOf, roomFor, Outcome}
 use Rattle.layout.specs.Steps.{formAt, wordsFor, LaidOut}
-use Rattle.layout.specs.Progress.{laid-count}
+use Rattle.layout.specs.ProgressLaws.{laid-count}
 use Rattle.layout.specs.declared.Task.{Task}
 use Rattle.layout.specs.declared.Laid.{Laid}
 use Rattle.layout.specs.declared.Laid.the-variants.{Rows, Over, NoRoom}

@@ -11,6 +11,6 @@ pub mod Lists
 pub mod FormLaws
 pub mod ListsLaws
 pub mod AlikeLaws
-pub mod Turn
-pub mod Progress
+pub mod TurnLaws
+pub mod ProgressLaws
 pub mod StretchesLaws

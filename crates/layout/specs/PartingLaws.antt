@@ -7,7 +7,7 @@ use borrow.Author.Tests.{ne-eqb}
 use Rattle.selectors.specs.declared.Direction.{Direction}
 use Rattle.normal_form.specs.Laws.{normal-form-ext}
 use Rattle.normal_form.specs.MapLaws.{mapLeaf, normal-form-map}
-use Rattle.policy.specs.Action.{action-≟}
+use Rattle.policy.specs.ActionLaws.{action-≟}
 use Rattle.policy.specs.Policy.{PolicyRow, orderedSearch, policyNormalForm}
 use Rattle.policy.specs.Words.{actionOf, actionWord}
 use Rattle.policy.specs.WordsLaws.{word-action}

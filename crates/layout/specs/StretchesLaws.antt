@@ -13,7 +13,7 @@ use Rattle.layout.specs.Parting.{Parting}
 use Rattle.layout.specs.Decode.{partRows}
 use Rattle.layout.specs.Steps.{LaidOut, Placed}
 use Rattle.layout.specs.StepsLaws.{laid-rows}
-use Rattle.layout.specs.Progress.{laid-count}
+use Rattle.layout.specs.ProgressLaws.{laid-count}
 use Rattle.layout.specs.Stretches.{isOver, stretchOf, Joins, StretchOut, PlacedStretch}
 use Rattle.layout.specs.declared.Kept.{Kept}
 use Rattle.layout.specs.declared.Laid.{Laid}

@@ -4,7 +4,7 @@ use mathlib.Core.Path.{_≡_, refl}
 use mathlib.Core.List.{[], _∷_}
 use Rattle.selectors.specs.Range.{range, contains, holds}
 use Rattle.normal_form.specs.Search.{row, find}
-use Rattle.normal_form.specs.Same.{list-≟, range-≟, row-≟}
+use Rattle.normal_form.specs.SameLaws.{list-≟, range-≟, row-≟}
 use Rattle.normal_form.specs.NormalForm.{rowsOf, push, runs, normalForm}
 
 -- The second row keeps what the first leaves of it, and 3 is cut off from 1 and 2.

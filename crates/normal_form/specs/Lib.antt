@@ -1,13 +1,13 @@
 pub mod Search
-pub mod Same
+pub mod SameLaws
 pub mod NormalForm
 pub mod Layout
 pub mod SearchLaws
 pub mod RunsLaws
 pub mod Laws
 pub mod LayoutLaws
-pub mod Shape
-pub mod Loop
+pub mod ShapeLaws
+pub mod LoopLaws
 pub mod MapLaws
-pub mod Compute
+pub mod ComputeLaws
 pub mod Examples

@@ -5,7 +5,7 @@ use mathlib.Core.List.{List, [], _∷_, _++_, map}
 use mathlib.Core.Logic.{ite}
 use Rattle.selectors.specs.Range.{range}
 use Rattle.normal_form.specs.Search.{Row, row}
-use Rattle.normal_form.specs.Same.{list-≟, row-≟}
+use Rattle.normal_form.specs.SameLaws.{list-≟, row-≟}
 
 -- Consecutive values of one field, `low` to `high` (document 01's stretch), with the rows of the fields behind it.
 pub record Interval (A : Type 0) : Type 0 where

@@ -6,7 +6,7 @@ use mathlib.Core.Path.{_≡_, refl, sym, _∙_, ap}
 use mathlib.Core.List.{List, [], _∷_, _++_, map}
 use mathlib.Core.Logic.{_≢_, _↔_, if-pos, if-neg}
 use Rattle.normal_form.specs.Search.{Row, find}
-use Rattle.normal_form.specs.Same.{list-≟, row-≟}
+use Rattle.normal_form.specs.SameLaws.{list-≟, row-≟}
 use Rattle.normal_form.specs.NormalForm.{Interval, interval, Intervals, start, _▸_, under, rowsOf, push, runs}
 use Rattle.selectors.specs.RangeLaws.{contains-in, contains-below, contains-above}
 use Rattle.normal_form.specs.SearchLaws.{find-nil, find-append, find-under, find-outside}

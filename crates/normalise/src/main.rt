@@ -8,14 +8,14 @@
 ghost use mathlib.Core.Path.{_≡_};
 ghost use lib.ListN.{length};
 ghost use Rattle.policy.specs.Words.{rowLimit};
-ghost use Rattle.normaliser.specs.Normalise.{normalised, normalisedNumber};
+ghost use Rattle.normal_form_file.specs.Normalise.{normalised, normalisedNumber};
 ghost use Rattle.policy_text.specs.Editions.{parsePolicy};
 ghost use Rattle.normalise.specs.Command.{directionAsked, Within};
-ghost use Rattle.normalise.specs.Room.{formBytes, Answered, IsFormFile};
+ghost use Rattle.normalise.specs.RoomLaws.{formBytes, Answered, IsFormFile};
 use libc::STDERR_FILENO;
 use libc::STDIN_FILENO;
 use libc::STDOUT_FILENO;
-use normaliser::Normalised;
+use normal_form_file::Normalised;
 use policy::LIMIT;
 use policy_text::Refusal;
 use policy_text::same;
@@ -143,7 +143,7 @@ fn normal_form(policy: &[u8], direction: Direction, text: &mut [u8; FORM_BYTES])
     ensures { λ r. ⌜ r ≡ normalised rowLimit direction formBytes (parsePolicy rowLimit (now (policy .entry))) ⌝ }
     ensures { λ r. ⌜ Answered direction (parsePolicy rowLimit (now (policy .entry))) (now (text .exit)) r ⌝ }
 {
-    normaliser::normalise(policy, direction, text)
+    normal_form_file::normalise(policy, direction, text)
 }
 
 // Nothing but the normal-form file of the policy file for the direction is written on standard output.

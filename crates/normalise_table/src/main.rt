@@ -1,7 +1,7 @@
 // Writes the normal forms, for out and for in, of each policy file on standard input. A tilde parts the files.
 ghost use Prim.Native.Nat.{_≤_};
 ghost use lib.ListN.{length};
-use normaliser::Normalised;
+use normal_form_file::Normalised;
 use policy_text::Refusal;
 use selectors::Direction;
 
@@ -44,7 +44,7 @@ fn file_end(text: &[u8], from: usize) -> usize
 
 fn show(file: &[u8], direction: Direction) {
     let mut out = [0u8; 32768];
-    let answer = normaliser::normalise(file, direction, &mut out);
+    let answer = normal_form_file::normalise(file, direction, &mut out);
     match answer {
         Normalised::Printed(count) => show_file(&out, count),
         Normalised::Refused(refusal) => show_refusal(refusal),

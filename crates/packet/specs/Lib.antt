@@ -1,5 +1,5 @@
 pub mod Header
 pub mod Read
-pub mod Steps
+pub mod StepsLaws
 pub mod ReadLaws
-pub mod Cases
+pub mod ExampleCases

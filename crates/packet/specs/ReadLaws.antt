@@ -17,7 +17,7 @@ use Rattle.selectors.specs.declared.Direction.{Direction}
 use Rattle.selectors.specs.declared.Direction.the-variants.{Out, In}
 use Rattle.packet.specs.Header.{Bytes, byte, two, four, totalLengthAt, flagsAt, protocolAt, sourceAt, destinationAt, shortestHeader, headerEnd, totalLength, fragmentOffset, protocol, source, destination}
 use Rattle.packet.specs.Read.{Shown, ports, typeAndCode, nothing, portsBytes, destinationPortAt, typeAndCodeBytes, shown, headerGood, readable, triggerReadable, hasPorts, isIcmp, local, remote, localPort, remotePort, value, packetOf, readPacket, readTrigger}
-use Rattle.packet.specs.Steps.{Inside, good-header, good-field, good-upper, ports-not-icmp, shown-each, shown-later}
+use Rattle.packet.specs.StepsLaws.{Inside, good-header, good-field, good-upper, ports-not-icmp, shown-each, shown-later}
 use Rattle.packet.specs.declared.Packet.{Packet}
 use Rattle.packet.specs.declared.Reading.{Reading}
 use Rattle.packet.specs.declared.Reading.the-variants.{Readable, Unreadable}

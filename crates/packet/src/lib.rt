@@ -5,7 +5,7 @@ ghost use lib.ListN.{length};
 ghost use Rattle.selectors.specs.Value.{number};
 ghost use Rattle.packet.specs.Header.{two, four, totalLengthAt, flagsAt, headerEnd, totalLength, fragmentOffset};
 ghost use Rattle.packet.specs.Read.{headerGood, hasPorts, shown, local, localPort, remotePort, value, packetOf, readPacket, readTrigger, triggerOf, errorType, icmpError};
-ghost use Rattle.packet.specs.Steps.{Inside};
+ghost use Rattle.packet.specs.StepsLaws.{Inside};
 use selectors::ABSENT;
 use selectors::Direction;
 use selectors::Selectors;

@@ -8,15 +8,15 @@ use Rattle.selectors.specs.Range.{Range, range, full, contains, addressSize, pr
 use Rattle.selectors.specs.declared.Direction.{Direction}
 use Rattle.selectors.specs.declared.Direction.the-variants.{Out, In}
 use Rattle.normal_form.specs.Search.{Row, row, find}
-use Rattle.normal_form.specs.Same.{list-≟, range-≟, row-≟}
+use Rattle.normal_form.specs.SameLaws.{list-≟, range-≟, row-≟}
 use Rattle.normal_form.specs.NormalForm.{rowsOf, push, normalForm}
-use Rattle.normal_form.specs.Loop.{jump}
+use Rattle.normal_form.specs.LoopLaws.{jump}
 use Rattle.normal_form.specs.Laws.{normal-form-ext}
-use Rattle.normal_form.specs.Compute.{isCut, rising, cutsRise, rangesCut, rowsCut, narrowed, behind, compute, compute-normal-form}
+use Rattle.normal_form.specs.ComputeLaws.{isCut, rising, cutsRise, rangesCut, rowsCut, narrowed, behind, compute, compute-normal-form}
 use Rattle.policy.specs.declared.Action.{Action}
 use Rattle.policy.specs.declared.Action.the-variants.{Discard, Bypass, Protect}
 use Rattle.policy.specs.declared.RowDirection.the-variants.{Only, Both}
-use Rattle.policy.specs.Action.{action-≟}
+use Rattle.policy.specs.ActionLaws.{action-≟}
 use Rattle.policy.specs.Policy.{PolicyRow, policyNormalForm}
 use Rattle.policy.specs.PolicyLaws.{rowsFor, search-find}
 

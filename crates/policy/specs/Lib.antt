@@ -1,4 +1,4 @@
-pub mod Action
+pub mod ActionLaws
 pub mod Policy
 pub mod PolicyLaws
 pub mod Words

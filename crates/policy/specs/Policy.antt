@@ -13,7 +13,7 @@ use Rattle.policy.specs.declared.Found.{Found}
 use Rattle.policy.specs.declared.Found.the-variants.{Row, Nothing}
 use Rattle.policy.specs.declared.RowDirection.{RowDirection}
 use Rattle.policy.specs.declared.RowDirection.the-variants.{Only, Both}
-use Rattle.policy.specs.Action.{action-≟}
+use Rattle.policy.specs.ActionLaws.{action-≟}
 
 -- A row of a policy: its way (`out`, `in` or `both`), its action, and a range for each field.
 pub record PolicyRow : Type 0 where

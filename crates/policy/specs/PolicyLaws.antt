@@ -12,7 +12,7 @@ use Rattle.normal_form.specs.Laws.{search-normal-form, normal-form-ext, normal-
 use Rattle.policy.specs.declared.Action.{Action}
 use Rattle.policy.specs.declared.Action.the-variants.{Discard}
 use Rattle.policy.specs.declared.RowDirection.the-variants.{Only}
-use Rattle.policy.specs.Action.{action-≟}
+use Rattle.policy.specs.ActionLaws.{action-≟}
 use Rattle.policy.specs.Policy.{PolicyRow, appliesTo, matches, orderedSearch, policyNormalForm, asRow, asPolicy, bothWays}
 
 -- The first row either gives the answer or is passed over.

@@ -23,8 +23,8 @@ use Rattle.policy_text.specs.Bytes.{lf, sameBytes}
 use Rattle.policy_text.specs.Format.{linesOf, Lines, allRows, badRow, rowsOf}
 use Rattle.policy_text.specs.Edition1.{header, edition1}
 use Rattle.policy_text.specs.Editions.{formatOf, editionAmong, editionOf, rowCount, rowLines, rules, Policy, refused, rows, policyOf, checked, parsePolicy}
-use Rattle.policy_round_trip.specs.Accepted.{rows-printable}
-use Rattle.policy_round_trip.specs.Words.{all-five}
+use Rattle.policy_round_trip.specs.AcceptedLaws.{rows-printable}
+use Rattle.policy_round_trip.specs.WordsLaws.{all-five}
 use Rattle.policy_parse.specs.Parsing.{written, badOf, fileOf, parsedIn, parsedRoom}
 use Rattle.policy_parse.specs.RowsLaws.{Read, good, bad, read, length-lines, written-rows}
 

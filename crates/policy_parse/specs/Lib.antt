@@ -1,4 +1,4 @@
 pub mod Parsing
 pub mod RowsLaws
 pub mod FileLaws
-pub mod Taken
+pub mod TakenLaws

@@ -21,9 +21,9 @@ use Rattle.policy_text.specs.Print.{rangeText}
 use Rattle.policy_text.specs.Edition1.{header, opaqueWord, bypassWord, discardWord, protectWord, address, isMask, maskedRange, addressField, protocolField, portEnd, portField, protect, actionField, lower, addressText, protocolText, portText, actionText, addresses, protocols, ports, edition1}
 use Rattle.policy_text.specs.FormatLaws.{AtMost, decimal-at-most}
 use Rattle.policy_text.specs.PrintLaws.{decimal-length}
-use Rattle.policy_round_trip.specs.Cuts.{has-none}
-use Rattle.policy_round_trip.specs.Decimals.{decimal-back, decimal-without, decimal-no-word, address-back, address-without, address-length}
-use Rattle.policy_round_trip.specs.Ranges.{Outside, Values, spanText, span-without, span-not-any, range-back, ends-back, range-clean, Reads, either, In, made-in, ends-in, full-in}
+use Rattle.policy_round_trip.specs.CutsLaws.{has-none}
+use Rattle.policy_round_trip.specs.DecimalsLaws.{decimal-back, decimal-without, decimal-no-word, address-back, address-without, address-length}
+use Rattle.policy_round_trip.specs.RangesLaws.{Outside, Values, spanText, span-without, span-not-any, range-back, ends-back, range-clean, Reads, either, In, made-in, ends-in, full-in}
 use Rattle.policy_round_trip.specs.Lawful.{Clean, HeaderLine, Spelled, Writable, Lawful}
 
 -- The values of each field, with how many bytes the longest has.

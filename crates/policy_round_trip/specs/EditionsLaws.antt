@@ -13,7 +13,7 @@ use Rattle.policy_text.specs.declared.Edition.the-variants.{One}
 use Rattle.policy_text.specs.Bytes.{lf, before, sameBytes}
 use Rattle.policy_text.specs.BytesLaws.{same-bytes, same-self}
 use Rattle.policy_text.specs.Editions.{formatOf, editions, headed, editionAmong, editionOf}
-use Rattle.policy_round_trip.specs.Cuts.{before-seam}
+use Rattle.policy_round_trip.specs.CutsLaws.{before-seam}
 use Rattle.policy_round_trip.specs.Lawful.{Lawful}
 use Rattle.policy_round_trip.specs.Edition1Laws.{edition1-lawful}
 

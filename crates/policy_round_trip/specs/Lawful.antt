@@ -5,7 +5,7 @@ use mathlib.Core.Bool.{true}
 use mathlib.Core.List.{List, [], _∷_, _++_}
 use mathlib.Core.Option.{some}
 use Rattle.selectors.specs.Range.{Range, inField}
-use Rattle.normal_form.specs.Shape.{Fits}
+use Rattle.normal_form.specs.ShapeLaws.{Fits}
 use Rattle.policy.specs.declared.Action.{Action}
 use Rattle.policy.specs.declared.Action.the-variants.{Discard}
 use Rattle.policy.specs.Policy.{PolicyRow}

@@ -7,7 +7,7 @@ use mathlib.Core.List.{List, [], _∷_}
 use lib.ListN.{length, length-append}
 use Rattle.selectors.specs.Range.{Range, inField, addressSize, protocolSize, portSize}
 use Rattle.selectors.specs.declared.Direction.the-variants.{Out, In}
-use Rattle.normal_form.specs.Shape.{Fits}
+use Rattle.normal_form.specs.ShapeLaws.{Fits}
 use Rattle.policy.specs.declared.Action.{Action}
 use Rattle.policy.specs.declared.Action.the-variants.{Discard, Bypass, Protect}
 use Rattle.policy.specs.declared.RowDirection.{RowDirection}
@@ -20,10 +20,10 @@ use Rattle.policy_text.specs.Print.{directionText, rangesText, rowText, rowsTex
 use Rattle.policy_text.specs.Edition1.{actionText, edition1}
 use Rattle.policy_text.specs.Editions.{formatOf}
 use Rattle.policy_text.specs.PrintLaws.{decimal-length, ranges-length}
-use Rattle.policy_round_trip.specs.Ranges.{inField-made, range-short}
+use Rattle.policy_round_trip.specs.RangesLaws.{inField-made, range-short}
 use Rattle.policy_round_trip.specs.Lawful.{Printable}
 use Rattle.policy_round_trip.specs.Edition1Laws.{Proper, proper, address-values, protocol-values, port-values}
-use Rattle.policy_round_trip.specs.Files.{AllPrintable, first-printable, rest-printable, rows-cons}
+use Rattle.policy_round_trip.specs.FilesLaws.{AllPrintable, first-printable, rest-printable, rows-cons}
 
 -- Rows whose texts, with their LF, have at most so many bytes.
 rows-length : (f : Format) (width : ℕ) → ((r : PolicyRow) → Printable f r → length (rowText f r) + 1 ≤ width) → (rs : List PolicyRow)

@@ -14,7 +14,7 @@ use Rattle.policy.specs.Policy.{PolicyRow, matches, orderedSearch, bothWays}
 use Rattle.policy_text.specs.Editions.{Rules, Policy, refused, rows, parsePolicy}
 use Rattle.decorrelate.specs.Form.{form}
 use Rattle.spd_cache.specs.Cache.{slotCount, replaced}
-use Rattle.spd.specs.Spd.{noRules, accepting, ifAccepted}
+use Rattle.acceptance.specs.Spd.{noRules, accepting, ifAccepted}
 use Rattle.sad.specs.declared.NewPair.{NewPair}
 use Rattle.sad.specs.declared.Outcome.{Outcome}
 use Rattle.sad.specs.declared.Outcome.the-variants.{Done, ReservedSpi, AlreadyLive, TableFull, BadPair, NothingToRemove}

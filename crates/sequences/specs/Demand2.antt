@@ -20,21 +20,21 @@ use Rattle.policy.specs.declared.Action.the-variants.{Bypass, Protect}
 use Rattle.policy.specs.Policy.{orderedSearch}
 use Rattle.policy_text.specs.Editions.{editionSizes}
 use Rattle.spd_cache.specs.Cache.{lookedUp}
-use Rattle.spd_words.specs.Words.{rowsOf}
+use Rattle.spd.specs.Words.{rowsOf}
 use Rattle.sad.specs.declared.PairFound.the-variants.{Found, Nothing}
 use Rattle.sad.specs.Pairs.{pairs, live, fitting, pairFor}
 use Rattle.verdicts.specs.Calls.{shows, outboundBy, inboundBy, fromSaBy}
 use Rattle.verdicts.specs.Verdict.{verdictNumber, carried}
 use Rattle.verdicts.specs.declared.Verdict.{Verdict}
-use Rattle.answers.specs.Terms.{ForGateway, IcmpError, returned}
-use Rattle.answers.specs.Answers.{out-0, in-0, sa-1, out-2, out-3}
+use Rattle.answer_rules.specs.Terms.{ForGateway, IcmpError, returned}
+use Rattle.answer_rules.specs.Demand1.{out-0, in-0, sa-1, out-2, out-3}
 use Rattle.sequences.specs.Sequence.{Gateway, Call, goesOut, comesIn}
 use Rattle.sequences.specs.Current.{current, livePairs}
-use Rattle.sequences.specs.Invariant.{cacheOf}
+use Rattle.sequences.specs.InvariantLaws.{cacheOf}
 use Rattle.sequences.specs.First.{FirstIs}
 use Rattle.sequences.specs.FirstLaws.{first-bypass, first-protect}
-use Rattle.sequences.specs.Live.{pairs-live}
-use Rattle.sequences.specs.NextAnswer.{now, cached-search, outbound-answer, inbound-answer, from-sa-alike}
+use Rattle.sequences.specs.LiveLaws.{pairs-live}
+use Rattle.sequences.specs.NextAnswerLaws.{now, cached-search, outbound-answer, inbound-answer, from-sa-alike}
 
 -- One side of an equivalence put for another.
 through : {A B C : Type 0} → (A ↔ B) → (B ↔ C) → A ↔ C

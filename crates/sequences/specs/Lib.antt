@@ -1,9 +1,9 @@
 pub mod Sequence
 pub mod Current
-pub mod Invariant
-pub mod Live
-pub mod Slots
-pub mod NextAnswer
+pub mod InvariantLaws
+pub mod LiveLaws
+pub mod SlotsLaws
+pub mod NextAnswerLaws
 pub mod First
 pub mod FirstLaws
 pub mod Demand2

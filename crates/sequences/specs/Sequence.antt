@@ -1,5 +1,5 @@
 -- A gateway, the calls on it, and what it is after a sequence of them (document 01, 'Cache and associations'). Assumes nothing: these are definitions.
--- Each call does what the contract of its function says: `spd::accept`, `sad::add`, `sad::remove`, `gateway::outbound`, `inbound`, `from_sa`,
+-- Each call does what the contract of its function says: `acceptance::accept`, `sad::add`, `sad::remove`, `gateway::outbound`, `inbound`, `from_sa`,
 -- with any `capacity`, how many rows the words of its policy carry for each direction, and any `limit`, the most rows of a policy and of a
 -- normal form (21 and 22). The contracts have both at `rowLimit`.
 use Prim.Native.Nat.{ℕ, _*_}
@@ -7,10 +7,10 @@ use mathlib.Core.List.{List, [], _∷_}
 use lib.ListN.{replicate}
 use Rattle.selectors.specs.declared.Direction.the-variants.{Out, In}
 use Rattle.policy_text.specs.Editions.{parsePolicy}
-use Rattle.spd.specs.declared.Acceptance.{Acceptance}
-use Rattle.spd.specs.declared.Caches.{Caches}
-use Rattle.spd.specs.Spd.{spdWords, noRules, accepting, spdAfter, emptyCaches, cachesAfter, acceptanceNumber}
-use Rattle.spd_words.specs.Words.{rowsOf, addressOf}
+use Rattle.acceptance.specs.declared.Acceptance.{Acceptance}
+use Rattle.acceptance.specs.declared.Caches.{Caches}
+use Rattle.acceptance.specs.Spd.{spdWords, noRules, accepting, spdAfter, emptyCaches, cachesAfter, acceptanceNumber}
+use Rattle.spd.specs.Words.{rowsOf, addressOf}
 use Rattle.spd_cache.specs.declared.Cache.{Cache}
 use Rattle.sad.specs.declared.NewPair.{NewPair}
 use Rattle.sad.specs.declared.Outcome.{Outcome}

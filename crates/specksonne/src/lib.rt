@@ -10,10 +10,10 @@ ghost use Rattle.policy.specs.Words.{policyRows, rowWords, rowLimit, rowOf};
 ghost use Rattle.policy_text.specs.Editions.{parsePolicy};
 ghost use Rattle.policy_parse.specs.Parsing.{parsedIn, parsedRoom, parsedNumber};
 ghost use Rattle.policy_print.specs.Printing.{printed, printedIn, printedRoom, printedNumber};
-ghost use Rattle.normaliser.specs.Normalise.{normalised, normalisedBytes, normalisedNumber, normalisedCarries};
+ghost use Rattle.normal_form_file.specs.Normalise.{normalised, normalisedBytes, normalisedNumber, normalisedCarries};
 ghost use Rattle.same_policy.specs.Same.{compared, comparedNumber};
-ghost use Rattle.spd.specs.Spd.{spdWords, noRules, accepting, spdAfter, cachesAfter, acceptanceNumber, acceptanceCarries};
-ghost use Rattle.spd_words.specs.Words.{addressOf, rowsOf, spdSize};
+ghost use Rattle.acceptance.specs.Spd.{spdWords, noRules, accepting, spdAfter, cachesAfter, acceptanceNumber, acceptanceCarries};
+ghost use Rattle.spd.specs.Words.{addressOf, rowsOf, spdSize};
 ghost use Rattle.sad.specs.Pairs.{tableWords, pairs, live, addOutcome, added, removeOutcome, removed, outcomeNumber};
 ghost use Rattle.spd_cache.specs.Cache.{emptyCache};
 ghost use Rattle.verdicts.specs.Calls.{fromSaBy};
@@ -24,6 +24,7 @@ ghost use Rattle.answer_numbers.specs.Carries.{parsedCarries, printedCarries, c
 ghost use Rattle.abi.specs.Words.{directionFrom, pairFrom, actionKind, actionNumber, isFound, placeFound, isReadable, readingWords, triggerWords};
 ghost use Rattle.specksonne.specs.Lent.{cachesFrom};
 ghost use Rattle.specksonne.specs.Sizes.{abiNumber, versionNumber, mostFormBytes};
+use acceptance::Caches;
 use packet::Reading;
 use policy::LIMIT;
 use policy::ROW_WORDS;
@@ -33,10 +34,9 @@ use sad::TABLE_WORDS;
 use selectors::Direction;
 use selectors::words::RANGES_WORDS;
 use selectors::words::SELECTOR_WORDS;
-use spd::Caches;
+use spd::SPD_WORDS;
 use spd_cache::lent;
 use spd_cache::lent::CACHE_WORDS;
-use spd_words::SPD_WORDS;
 
 // Bytes that are enough for a printed row, and for a normal-form file: its header line and the limit's rows.
 const ROW_BYTES: usize = 120;
@@ -116,7 +116,7 @@ pub extern "C" fn specksonne_most_form_bytes() -> usize
     MOST_FORM_BYTES
 }
 
-// A fresh gateway (`spd::fresh`): its address, 'the policy without rows, no pair and empty caches'.
+// A fresh gateway (`acceptance::fresh`): its address, 'the policy without rows, no pair and empty caches'.
 #[no_mangle]
 pub extern "C" fn specksonne_fresh(
     policy: &mut [u64; SPD_WORDS],
@@ -129,7 +129,7 @@ pub extern "C" fn specksonne_fresh(
     ensures { λ _. ⌜ (now (table .exit) ≡ replicate tableWords 0) × (pairs (now (table .exit)) ≡ []) ⌝ }
     ensures { λ _. ⌜ (now (outbound .exit) ≡ cacheWords emptyCache) × (now (inbound .exit) ≡ cacheWords emptyCache) ⌝ }
 {
-    let caches = spd::fresh(policy, address);
+    let caches = acceptance::fresh(policy, address);
     *table = [0; TABLE_WORDS];
     let empty_out = caches.outbound;
     lent::save(outbound, empty_out);
@@ -137,7 +137,7 @@ pub extern "C" fn specksonne_fresh(
     lent::save(inbound, empty_in);
 }
 
-// Hands a policy file to the gateway (`spd::accept`).
+// Hands a policy file to the gateway (`acceptance::accept`).
 #[no_mangle]
 pub extern "C" fn specksonne_policy(
     policy: &mut [u64; SPD_WORDS],
@@ -156,7 +156,7 @@ pub extern "C" fn specksonne_policy(
         outbound: lent::load(outbound),
         inbound: lent::load(inbound),
     };
-    let settled = spd::accept(policy, before, bytes);
+    let settled = acceptance::accept(policy, before, bytes);
     let acceptance = settled.acceptance;
     let after = settled.caches;
     let after_out = after.outbound;
@@ -292,7 +292,7 @@ pub extern "C" fn specksonne_print(
     answer_numbers::printed_number(printed)
 }
 
-// The normal-form file of a policy file for one direction (`normaliser::normalise`).
+// The normal-form file of a policy file for one direction (`normal_form_file::normalise`).
 #[no_mangle]
 pub extern "C" fn specksonne_normalise(
     bytes: &[u8],
@@ -304,7 +304,7 @@ pub extern "C" fn specksonne_normalise(
     ensures { λ _. ⌜ now (out .exit) ≡ normalisedBytes rowLimit (directionFrom direction) (now (out .entry)) (parsePolicy rowLimit (now (bytes .entry))) ⌝ }
     ensures { λ _. ⌜ now (carries .exit) ≡ normalisedCarries (normalised rowLimit (directionFrom direction) (length (now (out .entry))) (parsePolicy rowLimit (now (bytes .entry)))) ⌝ }
 {
-    let normalised = normaliser::normalise(bytes, abi::direction_from(direction), out);
+    let normalised = normal_form_file::normalise(bytes, abi::direction_from(direction), out);
     *carries = answer_numbers::normalised_carries(normalised);
     answer_numbers::normalised_number(normalised)
 }

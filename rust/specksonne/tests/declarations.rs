@@ -62,7 +62,7 @@ fn count(written: &str) -> usize {
         "sad/src/lib.rt",
         "spd_cache/src/lib.rt",
         "spd_cache/src/lent.rt",
-        "spd_words/src/lib.rt",
+        "spd/src/lib.rt",
         "specksonne/src/lib.rt",
     ];
     let sources = files.map(|file| text(&format!("crates/{file}"))).concat();

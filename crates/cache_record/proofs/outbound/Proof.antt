@@ -15,7 +15,7 @@ use denote.Triple.Table.{entered, cited}
 use Rattle.selectors.specs.declared.Direction.the-variants.{Out}
 use Rattle.sad.specs.Pairs.{pairs}
 use Rattle.policy.specs.Words.{rowLimit}
-use Rattle.spd_words.specs.Words.{rowsOf}
+use Rattle.spd.specs.Words.{rowsOf}
 use Rattle.spd_cache.specs.declared.Cache.{Cache}
 use Rattle.gateway.specs.Cached.{outboundCached}
 use Rattle.gateway.specs.declared.Answered.{Answered}

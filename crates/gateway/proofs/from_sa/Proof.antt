@@ -10,7 +10,7 @@ use Rattle.sad.specs.Pairs.{pairs, live, fitting, placeOf}
 use Rattle.sad.specs.PairsLaws.{live-at, live-nowhere, fitting-at}
 use Rattle.sad.specs.declared.Place.the-variants.{At}
 use Rattle.verdicts.specs.Calls.{shows, fromSaBy}
-use Rattle.gateway.specs.Trigger.{trigger-at}
+use Rattle.gateway.specs.TriggerLaws.{trigger-at}
 use borrow.Author.Needs.{needs}
 use Rattle.gateway.proofs.from_sa.Statement.{statement}
 use Rattle.gateway.proofs.from_sa.Tie as tie

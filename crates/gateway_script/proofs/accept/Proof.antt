@@ -1,6 +1,6 @@
--- `gateway_script::accept` meets its contract: by that of `spd::accept`. Assumes nothing.
+-- `gateway_script::accept` meets its contract: by that of `acceptance::accept`. Assumes nothing.
 use mathlib.Core.Path.{ap}
-use Rattle.spd.specs.declared.Settled.{Settled}
+use Rattle.acceptance.specs.declared.Settled.{Settled}
 use borrow.Author.Needs.{needs}
 use Rattle.gateway_script.proofs.accept.Statement.{statement}
 use Rattle.gateway_script.proofs.accept.Tie as tie

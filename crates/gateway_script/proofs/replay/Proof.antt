@@ -5,7 +5,7 @@ use borrow.Author.Needs.{needs}
 use Rattle.gateway_script.proofs.replay.Statement.{statement}
 use Rattle.gateway_script.proofs.replay.Tie as tie
 use Rattle.policy_text.proofs.before.Reads as before-reads
-use Rattle.spd.proofs.fresh.Reads as fresh-reads
+use Rattle.acceptance.proofs.fresh.Reads as fresh-reads
 
 abbrev Inv-loop : tie.InvT-loop
 Inv-loop script policy₀ table₀ caches₀ at₀ policy table caches at = at ≤ length script

@@ -23,7 +23,7 @@ use Rattle.selectors.specs.Words.{fieldCount, valuesFrom}
 use Rattle.policy.specs.Words.{rowWords}
 use Rattle.layout.specs.Lists.{BranchAt}
 use Rattle.layout.specs.ListsLaws.{lists-within, branch-next}
-use Rattle.layout.specs.Progress.{Progress, progress-start, over-behind, over-so-far, laid-out, laid-last, laid-field, value-form, Room, room-for, turn-stretch, one-more}
+use Rattle.layout.specs.ProgressLaws.{Progress, progress-start, over-behind, over-so-far, laid-out, laid-last, laid-field, value-form, Room, room-for, turn-stretch, one-more}
 use Rattle.layout.specs.StretchesLaws.{over-told, stretch-again, stretch-empty, stretch-laid, stretch-fits}
 use Rattle.layout.proofs.+layout_field+layout_stretch.{statement}
 use Rattle.layout.proofs.+layout_field+layout_stretch.Tie.{close}

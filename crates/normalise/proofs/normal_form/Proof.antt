@@ -5,8 +5,8 @@ use mathlib.Core.Path.{_≡_, ap, _∙_}
 use lib.ListN.{length}
 use Rattle.policy.specs.Words.{rowLimit}
 use Rattle.policy_text.specs.Editions.{parsePolicy}
-use Rattle.normaliser.specs.Normalise.{normalised}
-use Rattle.normalise.specs.Room.{formBytes, Answered, answered}
+use Rattle.normal_form_file.specs.Normalise.{normalised}
+use Rattle.normalise.specs.RoomLaws.{formBytes, Answered, answered}
 use borrow.Author.Needs.{needs}
 use Rattle.normalise.proofs.normal_form.Statement.{statement}
 use Rattle.normalise.proofs.normal_form.Tie as tie

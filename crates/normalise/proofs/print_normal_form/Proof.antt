@@ -5,8 +5,8 @@ use mathlib.Core.Path.{subst}
 use lib.ListN.{length, length-take}
 use Rattle.policy.specs.Words.{rowLimit}
 use Rattle.policy_text.specs.Editions.{parsePolicy}
-use Rattle.normaliser.specs.declared.Normalised.the-variants.{Printed}
-use Rattle.normalise.specs.Room.{Answered, printed-within, printed-file}
+use Rattle.normal_form_file.specs.declared.Normalised.the-variants.{Printed}
+use Rattle.normalise.specs.RoomLaws.{Answered, printed-within, printed-file}
 use borrow.Author.Needs.{needs}
 use Rattle.normalise.proofs.print_normal_form.Statement.{statement}
 use Rattle.normalise.proofs.print_normal_form.Tie as tie

@@ -3,7 +3,7 @@ use Prim.Native.Nat.{_+_}
 use native.Mathlib.Omega.{arith}
 use denote.Ref.{now}
 use Rattle.packet.specs.Header.{four}
-use Rattle.packet.specs.Steps.{two-past}
+use Rattle.packet.specs.StepsLaws.{two-past}
 use borrow.Author.Needs.{needs}
 use Rattle.packet.proofs.four_at.Statement.{statement}
 use Rattle.packet.proofs.four_at.Tie as tie

@@ -7,7 +7,7 @@ use borrow.Author.Tests.{not-true, not-false}
 use Rattle.selectors.specs.Value.{number}
 use Rattle.selectors.specs.ValueLaws.{number-lower}
 use Rattle.packet.specs.Read.{isIcmp, errorType}
-use Rattle.packet.specs.Steps.{icmp-other, icmp-by-type, error-above, number-large}
+use Rattle.packet.specs.StepsLaws.{icmp-other, icmp-by-type, error-above, number-large}
 use borrow.Author.Needs.{needs}
 use Rattle.packet.proofs.is_icmp_error.Statement.{statement}
 use Rattle.packet.proofs.is_icmp_error.Tie as tie

@@ -1,7 +1,7 @@
 -- `packet::packet_at` meets its contract: each part is that of the definition. Assumes nothing.
 use denote.Ref.{now}
 use Rattle.packet.specs.Header.{source, destination}
-use Rattle.packet.specs.Steps.{remote-local}
+use Rattle.packet.specs.StepsLaws.{remote-local}
 use borrow.Author.Needs.{needs}
 use Rattle.packet.proofs.packet_at.Statement.{statement}
 use Rattle.packet.proofs.packet_at.Tie as tie

@@ -5,7 +5,7 @@ use borrow.Author.Tests.{ne-eqb}
 use denote.Ref.{now}
 use Rattle.packet.specs.Header.{protocol}
 use Rattle.packet.specs.Read.{value, hasPorts}
-use Rattle.packet.specs.Steps.{shown-later, shown-ports, shown-few-ports, shown-type, shown-few-type, shown-other, remote-local}
+use Rattle.packet.specs.StepsLaws.{shown-later, shown-ports, shown-few-ports, shown-type, shown-few-type, shown-other, remote-local}
 use borrow.Author.Needs.{needs}
 use Rattle.packet.proofs.ports_at.Statement.{statement}
 use Rattle.packet.proofs.ports_at.Tie as tie

@@ -7,7 +7,7 @@ use denote.Ref.{now}
 use lib.ListN.{length}
 use Rattle.packet.specs.Header.{totalLength}
 use Rattle.packet.specs.Read.{headerGood, packetOf, readable, readPacket}
-use Rattle.packet.specs.Steps.{good-header, good-upper}
+use Rattle.packet.specs.StepsLaws.{good-header, good-upper}
 use Rattle.packet.specs.declared.Reading.the-variants.{Readable}
 use borrow.Author.Needs.{needs}
 use Rattle.packet.proofs.read.Statement.{statement}

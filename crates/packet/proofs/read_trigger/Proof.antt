@@ -7,7 +7,7 @@ use denote.Ref.{now}
 use lib.ListN.{length}
 use Rattle.packet.specs.Header.{headerEnd}
 use Rattle.packet.specs.Read.{headerGood, packetOf, triggerReadable, readTrigger}
-use Rattle.packet.specs.Steps.{good-header, good-upper}
+use Rattle.packet.specs.StepsLaws.{good-header, good-upper}
 use Rattle.packet.specs.declared.Reading.the-variants.{Readable}
 use borrow.Author.Needs.{needs}
 use Rattle.packet.proofs.read_trigger.Statement.{statement}

@@ -2,7 +2,7 @@
 use native.Mathlib.Omega.{arith}
 use mathlib.Core.Path.{sym}
 use denote.Ref.{now}
-use Rattle.packet.specs.Steps.{two-past, two-last}
+use Rattle.packet.specs.StepsLaws.{two-past, two-last}
 use borrow.Author.Needs.{needs}
 use Rattle.packet.proofs.two_at.Statement.{statement}
 use Rattle.packet.proofs.two_at.Tie as tie

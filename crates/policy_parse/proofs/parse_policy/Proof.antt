@@ -10,7 +10,7 @@ use Rattle.policy_text.specs.declared.File.{File}
 use Rattle.policy_text.specs.declared.File.the-variants.{Rows, Refused}
 use Rattle.policy_text.specs.EditionsLaws.{only-one}
 use Rattle.policy_text.specs.Editions.{rules, rows, parsePolicy}
-use Rattle.policy_round_trip.specs.Accepted.{parse-printable}
+use Rattle.policy_round_trip.specs.AcceptedLaws.{parse-printable}
 use Rattle.policy_parse.specs.FileLaws.{FileIs, file-is, rows-written}
 use borrow.Author.Needs.{needs}
 use Rattle.policy_parse.proofs.parse_policy.Statement.{statement}

@@ -8,7 +8,7 @@ use denote.Ref.{now}
 use Rattle.policy.specs.Words.{policyRows, rowLimit}
 use Rattle.policy_text.specs.declared.File.{File}
 use Rattle.policy_text.specs.declared.File.the-variants.{Rows, Refused}
-use Rattle.policy_parse.specs.Taken.{Taken, Told, told}
+use Rattle.policy_parse.specs.TakenLaws.{Taken, Told, told}
 use Rattle.policy_text.specs.Editions.{Policy, parsePolicy}
 use Rattle.same_policy.specs.Same.{compared}
 use borrow.Author.Needs.{needs}

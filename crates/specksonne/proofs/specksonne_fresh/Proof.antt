@@ -1,6 +1,6 @@
 -- `specksonne::specksonne_fresh` meets its contract: the policy without rows, zeros, and empty caches. Assumes nothing.
 use mathlib.Core.Path.{refl, ap, _∙_}
-use Rattle.spd.specs.declared.Caches.{Caches}
+use Rattle.acceptance.specs.declared.Caches.{Caches}
 use Rattle.spd_cache.specs.Lent.{cacheWords}
 use Rattle.specksonne.specs.FreshLaws.{fresh-pairs}
 use borrow.Author.Needs.{needs}

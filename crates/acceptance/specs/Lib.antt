@@ -1,0 +1,4 @@
+pub mod Spd
+pub mod StoreLaws
+pub mod SpdLaws
+pub mod StepsLaws

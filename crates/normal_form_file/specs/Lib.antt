@@ -1,0 +1,3 @@
+pub mod Normalise
+pub mod StepsLaws
+pub mod Demand3

@@ -1,3 +1,0 @@
-pub mod Normalise
-pub mod Steps
-pub mod Demand3
