@@ -138,14 +138,14 @@ module _ (limit : ℕ) (d : Direction) (e : Edition) (ws : List ℕ) (highest : 
       count : length (differenceForm (sizesOf highest) d (policyRows ws) (policyRows (take 0 ws))) ≡ length (form d rs)
       count = ap length same ∙ length-map (form d rs) (mapLeaf actionLeaf)
 
-      answer : r ≡ cond (leb (limit * 132) (length room)) (cond (leb (length (form d rs)) limit) (Rows (length (form d rs))) Over) NoRoom
+      answer : r ≡ cond (leb (roomFor limit) (length room)) (cond (leb (length (form d rs)) limit) (Rows (length (form d rs))) Over) NoRoom
       answer = rw count at (o .answer)
 
       -- The rows are within the limit, and so within the room.
-      within : (n : ℕ) (a b : Bool) → leb (limit * 132) (length room) ≡ a → leb (length (form d rs)) limit ≡ b
+      within : (n : ℕ) (a b : Bool) → leb (roomFor limit) (length room) ≡ a → leb (length (form d rs)) limit ≡ b
           → Rows n ≡ cond a (cond b (Rows (length (form d rs))) Over) NoRoom → n * rowWords ≤ length room′
       within n true true p q e =
-          let h = leb-true (limit * 132) (length room) p in
+          let h = leb-true (roomFor limit) (length room) p in
           let g = leb-true (length (form d rs)) limit q in
           let k : n ≡ length (form d rs) = cc in
           omega arith
@@ -170,10 +170,10 @@ counted limit count room r enough answer = by (decLe count limit)
   where
     by : Dec (count ≤ limit) → Counted limit count r
     by (yes h) =
-        let e : r ≡ Rows count = answer ∙ rw (le-leb (limit * 132) room enough, le-leb count limit h) in
+        let e : r ≡ Rows count = answer ∙ rw (le-leb (roomFor limit) room enough, le-leb count limit h) in
         rw e (h, refl)
     by (no h) =
-        let e : r ≡ Over = answer ∙ rw (le-leb (limit * 132) room enough, lt-leb count limit (omega arith)) in
+        let e : r ≡ Over = answer ∙ rw (le-leb (roomFor limit) room enough, lt-leb count limit (omega arith)) in
         rw e (omega arith)
 
 -- What it says of a normal form.

@@ -5,7 +5,7 @@ use mathlib.Core.Path.{_≡_, refl, sym, ap, subst, _∙_}
 use mathlib.Core.List.{List}
 use denote.Ref.{now}
 use lib.ListN.{length, length-take}
-use Rattle.policy.specs.Words.{rowLimit}
+use Rattle.policy.specs.Words.{rowWords, rowLimit}
 use Rattle.policy_text.specs.declared.File.{File}
 use Rattle.policy_text.specs.declared.File.the-variants.{Rows, Refused}
 use Rattle.policy_parse.specs.TakenLaws.{Taken, Told, told}
@@ -24,7 +24,7 @@ got : (c : tie.After-file) → Taken rowLimit (now (c .before .before .before .b
 unfolding Told
 got c = says (c .before .before) (Rows (c .file .given .0 .0) (c .file .given .0 .1 .0)) (c .file .given .1)
 
-fits : (c : tie.After-file) → c .file .given .0 .1 .0 * 22 ≤ length (c .before .before .parse-policy .last .1 .0)
+fits : (c : tie.After-file) → c .file .given .0 .1 .0 * rowWords ≤ length (c .before .before .parse-policy .last .1 .0)
 fits c = got c .words-fit
 
 parse-policy-requires : tie.Need-parse-policy-requires

@@ -5,6 +5,7 @@ use native.Mathlib.Omega.{arith}
 use mathlib.Core.Path.{_≡_, sym, _∙_}
 use lib.ListN.{length, drop}
 use lib.Seq.{sets}
+use Rattle.policy.specs.Words.{rowWords}
 use Rattle.policy_text.specs.Bytes.{lf, before}
 use Rattle.policy_text.specs.Format.{linesOf}
 use Rattle.policy_fields.specs.Answers.{entryOf, textWords}
@@ -50,7 +51,7 @@ loop-again c =
     let a = c .before .before .before .before .before .before .before .before .before .before .before .args in
     let l = c .before .before .before .before .before .before .before .before .loop in
     let s = drop (l .at) (a .body .now) in
-    let r : c .before .before .before .put-text .last .0 ≡ sets (l .rows) (l .i * 22) (textWords (entryOf (before lf s))) =
+    let r : c .before .before .before .put-text .last .0 ≡ sets (l .rows) (l .i * rowWords) (textWords (entryOf (before lf s))) =
     c .before .before .before .put-text .ensures ∙ rw (c .before .before .before .before .row .ensures, c .before .before .before .before .before .line-at .ensures) in (
       search needs,
       search needs,

@@ -5,7 +5,7 @@ use mathlib.Core.Path.{_≡_, refl, sym, ap, subst, _∙_}
 use mathlib.Core.List.{List}
 use lib.ListN.{length, take, length-take}
 use denote.Ref.{now}
-use Rattle.policy.specs.Words.{policyRows, rowLimit}
+use Rattle.policy.specs.Words.{rowWords, policyRows, rowLimit}
 use Rattle.policy_text.specs.declared.File.{File}
 use Rattle.policy_text.specs.declared.File.the-variants.{Rows, Refused}
 use Rattle.policy_parse.specs.TakenLaws.{Taken, Told, told}
@@ -27,7 +27,7 @@ got : (c : tie.After-file) → Taken rowLimit (now (c .before .before .before .b
 unfolding Told
 got c = says (c .before .before) (Rows (c .file .given .0 .0) (c .file .given .0 .1 .0)) (c .file .given .1)
 
-fits : (c : tie.After-known-told) → c .before .file .given .0 .1 .0 * 22 ≤ length (c .before .before .before .parse-policy .last .1 .0)
+fits : (c : tie.After-known-told) → c .before .file .given .0 .1 .0 * rowWords ≤ length (c .before .before .before .parse-policy .last .1 .0)
 fits c = got (c .before) .words-fit
 
 parse-policy-requires : tie.Need-parse-policy-requires
@@ -58,7 +58,7 @@ returns c =
     let first = rules (s .args .edition) (policyRows (now (s .args .first))) in
     let one : s .args .edition ≡ k .file .given .0 .0 = only-one _ ∙ sym (only-one _) in
     c .compare-rows .ensures
-    ∙ ap (λ (e : Edition). compared (s .args .direction) (rows first) (rows (rules e (policyRows (take (k .file .given .0 .1 .0 * 22) (k .before .before .parse-policy .last .1 .0)))))) one
+    ∙ ap (λ (e : Edition). compared (s .args .direction) (rows first) (rows (rules e (policyRows (take (k .file .given .0 .1 .0 * rowWords) (k .before .before .parse-policy .last .1 .0)))))) one
     ∙ ap (λ (f : Policy). compared (s .args .direction) (rows first) f) (sym (got k .is))
 
 returns-2 : tie.Need-returns-2

@@ -3,6 +3,7 @@ use Prim.Native.Nat.{_+_, _-_, _*_}
 use native.Mathlib.Omega.{arith}
 use mathlib.Core.Path.{_≡_}
 use borrow.Author.Needs.{needs}
+use Rattle.policy.specs.Words.{rowWords}
 use Rattle.spd.proofs.rows_of.Statement.{statement}
 use Rattle.spd.proofs.rows_of.Tie as tie
 
@@ -43,7 +44,7 @@ returns : tie.Need-returns
 returns c =
     let start = c .before .rows-at .result in
     let n = c .before .before .capped .result in
-    let e : start + n * 22 - start ≡ n * 22 = omega arith in
+    let e : start + n * rowWords - start ≡ n * rowWords = omega arith in
     rw (e, c .before .rows-at .ensures .0, c .before .before .capped .ensures, c .before .before .before .before .count-at .ensures .0)
 
 pub rows-of-spec : {M : Type 1} → statement M
