@@ -103,6 +103,11 @@ header-alone : parsePolicy 0 header ≡ rows (rules One [])
 unfolding parsePolicy editionAmong sameBytes count linesOf rowsOf before after index rowOf rangesFrom field fieldsFrom directionField
 header-alone = refl
 
+-- The header line alone, printed: `policy`, tab, `1`, LF.
+empty-printed : policyText edition1 [] ≡ 112 ∷ 111 ∷ 108 ∷ 105 ∷ 99 ∷ 121 ∷ 9 ∷ 49 ∷ 10 ∷ []
+unfolding policyText rowsText
+empty-printed = refl
+
 -- A row of the document's example, and a bad row after it.
 example : PolicyRow
 example = record {
