@@ -1,13 +1,15 @@
 -- Laws of ranges. Assumes nothing.
-use Prim.Native.Nat.{ℕ, _+_, _≤_, _<_}
+use Prim.Native.Nat.{ℕ, suc, _+_, _≤_, _<_}
 use native.Mathlib.Omega.{arith}
 use native.Mathlib.Decide.{decLe, decLt, ℕ-discrete}
 use native.Mathlib.Numerals.{add-one}
-use mathlib.Core.Path.{_≡_, refl}
+use mathlib.Core.Path.{_≡_, refl, ap}
 use mathlib.Core.Bool.{Bool, true, false, not, _&&_, and-false, false≢true}
+use mathlib.Core.List.{List, [], _∷_}
 use lib.Dec.{leb, ltb, eqb, leb·suc-suc}
+use lib.ListN.{length}
 use borrow.Author.Tests.{le-leb, lt-leb, leb-true, lt-ltb, le-ltb, eq-eqb, ne-eqb, eqb-true}
-use Rattle.selectors.specs.Range.{Range, range, contains, inField, sameRange, full, opaque, absent, portSize}
+use Rattle.selectors.specs.Range.{Range, range, contains, holds, inField, sameRange, full, opaque, absent, portSize}
 
 -- Both of two tests that hold together hold.
 pub both-true : (a b : Bool) → (a && b) ≡ true → (a ≡ true) × (b ≡ true)
@@ -82,3 +84,11 @@ sameRange-true r q e =
     let l : r .low ≡ q .low = eqb-true _ _ (p .0) in
     let h : r .high ≡ q .high = eqb-true _ _ (p .1) in
     λ i. record { low = l i; high = h i }
+
+-- Ranges that hold values are as many as the values.
+pub holds-length : (rs : List Range) (vs : List ℕ) → holds rs vs ≡ true → length rs ≡ length vs
+unfolding holds
+holds-length [] [] e = refl
+holds-length [] (v ∷ vs) e = absurd (false≢true e)
+holds-length (r ∷ rs) [] e = absurd (false≢true e)
+holds-length (r ∷ rs) (v ∷ vs) e = ap suc (holds-length rs vs (both-true (contains r v) (holds rs vs) e .1))
