@@ -7,8 +7,8 @@ use Rattle.specksonne.proofs.specksonne_search.Tie as tie
 direction-from-requires : tie.Need-direction-from-requires
 direction-from-requires c κs = search needs
 
-selectors-from-requires : tie.Need-selectors-from-requires
-selectors-from-requires c κs = search needs
+selectors-of-requires : tie.Need-selectors-of-requires
+selectors-of-requires c κs = search needs
 
 search-requires : tie.Need-search-requires
 search-requires c κs = search needs
@@ -26,7 +26,7 @@ returns c =
       c .before .action-number .ensures,
       c .before .before .search .ensures,
       c .before .before .before .direction-from .ensures,
-      c .before .before .before .before .selectors-from .ensures,
+      c .before .before .before .before .selectors-of .ensures,
     )
     (refl, refl)
 
@@ -34,7 +34,7 @@ pub specksonne-search-spec : {M : Type 1} → statement M
 specksonne-search-spec =
     tie.close
     (tie.spec
-    selectors-from-requires
+    selectors-of-requires
     direction-from-requires
     search-requires
     action-number-requires

@@ -49,7 +49,8 @@ use Rattle.policy.specs.declared.Action.{Action}
 use Rattle.policy.specs.Policy.{orderedSearch}
 use Rattle.policy.specs.declared.Row.{Row}
 use Rattle.policy.specs.Words.{rowOf}
-use Rattle.abi.specs.Words.{directionFrom, selectorsOf, actionKind, actionNumber}
+use Rattle.selectors.specs.Words.{selectorsOf}
+use Rattle.abi.specs.Words.{directionFrom, actionKind, actionNumber}
 use Rattle.selectors.proofs.Direction as D
 use Rattle.selectors.proofs.Direction.Laws as D′
 use Rattle.selectors.proofs.Selectors as P
