@@ -253,7 +253,7 @@ fn lone(code: u32) -> u64
 }
 
 // THE TEST: whether the rows of the two sides give the same action throughout the box.
-pub fn agreed(
+pub(crate) fn agreed(
     first: &[u64],
     second: &[u64],
     entries: &[u32; MOST],

@@ -20,7 +20,12 @@ fn acts(rows: &[u64], row: u16) -> bool
 }
 
 // Lists those of the first rows of a list that do not discard, and counts them.
-pub fn acting(rows: &[u64], list: &[u16; LIMIT], total: usize, actors: &mut [u16; LIMIT]) -> usize
+pub(crate) fn acting(
+    rows: &[u64],
+    list: &[u16; LIMIT],
+    total: usize,
+    actors: &mut [u16; LIMIT],
+) -> usize
     requires { ⌜ (length (now list) ≡ rowLimit) × ((total ≤ rowLimit) × (length (now actors) ≡ rowLimit)) ⌝ }
     ensures { λ r. ⌜ Takes (λ i. doesAct (now (rows .entry)) i) (take total (now (list .entry))) (now (actors .exit)) r ⌝ }
 {
@@ -64,7 +69,7 @@ fn may_cut(rows: &[u64], row: u16, actors: &[u16; LIMIT], count: usize, field: u
 }
 
 // The same, where the rows that do not discard are listed.
-pub fn cutting_among(
+pub(crate) fn cutting_among(
     rows: &[u64],
     list: &[u16; LIMIT],
     total: usize,

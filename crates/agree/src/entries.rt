@@ -15,7 +15,7 @@ use policy::ROW_WORDS;
 use selectors::words::RANGES_WORDS;
 
 // Whether the row of a code is on a side.
-pub fn on(code: u32, second: bool) -> bool
+pub(crate) fn on(code: u32, second: bool) -> bool
     ensures { λ r. ⌜ r ≡ onSide second code ⌝ }
 {
     if second {
@@ -25,7 +25,7 @@ pub fn on(code: u32, second: bool) -> bool
 }
 
 // The action's word of a row; 0 if the word is not there.
-pub fn action_in(rows: &[u64], row: usize) -> u64
+pub(crate) fn action_in(rows: &[u64], row: usize) -> u64
     requires { ⌜ row < 4294967296 ⌝ }
     ensures { λ r. ⌜ r ≡ actionIn (now (rows .entry)) row ⌝ }
 {
@@ -45,7 +45,7 @@ fn code_action(first: &[u64], second: &[u64], code: u32) -> u64
     action_in(first, row_of(code))
 }
 
-pub fn entry_on(entries: &[u32; MOST], count: usize, k: usize, second: bool) -> bool
+pub(crate) fn entry_on(entries: &[u32; MOST], count: usize, k: usize, second: bool) -> bool
     requires { ⌜ count ≤ 2 * rowLimit ⌝ }
     ensures { λ r. ⌜ r ≡ onAt (now (entries .entry)) count second k ⌝ }
 {
@@ -55,7 +55,7 @@ pub fn entry_on(entries: &[u32; MOST], count: usize, k: usize, second: bool) -> 
     true
 }
 
-pub fn entry_action(
+pub(crate) fn entry_action(
     first: &[u64],
     second: &[u64],
     entries: &[u32; MOST],
@@ -72,7 +72,7 @@ pub fn entry_action(
 }
 
 // Whether an entry is known to be apart from a box; and whether it is known to cover it.
-pub fn entry_apart(
+pub(crate) fn entry_apart(
     first: &[u64],
     second: &[u64],
     entries: &[u32; MOST],
@@ -90,7 +90,7 @@ pub fn entry_apart(
     false
 }
 
-pub fn entry_covers(
+pub(crate) fn entry_covers(
     first: &[u64],
     second: &[u64],
     entries: &[u32; MOST],
@@ -109,7 +109,7 @@ pub fn entry_covers(
 }
 
 // A box that has all that a box and an entry have in common.
-pub fn entry_common(
+pub(crate) fn entry_common(
     first: &[u64],
     second: &[u64],
     entries: &[u32; MOST],

@@ -22,7 +22,7 @@ use selectors::words::RANGE_WORDS;
 use selectors::words::ends_at;
 
 // Whether the first `total` places of a list are those of rows that are there.
-pub fn there(rows: &[u64], list: &[u16; LIMIT], total: usize) -> bool
+pub(crate) fn there(rows: &[u64], list: &[u16; LIMIT], total: usize) -> bool
     ensures { λ r. ⌜ (r ≡ true → There (now (rows .entry)) (now (list .entry)) total) ⌝ }
 {
     // As a slice the list has its length in the proof.
@@ -72,7 +72,7 @@ fn coded(row: u16, sides: u32) -> u32
 }
 
 // Makes entries of listed rows at a cut, and counts them.
-pub fn cut_entries(
+pub(crate) fn cut_entries(
     rows: &[u64],
     list: &[u16; LIMIT],
     total: usize,
@@ -204,7 +204,7 @@ fn unless(who: u64, other: u64) -> usize
 }
 
 // Makes entries of two lists, a row that is the same and in like order in both one entry, and counts them.
-pub fn merge(
+pub(crate) fn merge(
     first: &[u64],
     of_first: &[u16; LIMIT],
     firsts: usize,

@@ -41,7 +41,7 @@ fn with_low(bounds: Bounds, field: usize, low: Value) -> Bounds
 }
 
 // The part of the box below a value of a field, or from it on.
-pub fn part(bounds: Bounds, field: usize, at: Value, upper: bool) -> Bounds
+pub(crate) fn part(bounds: Bounds, field: usize, at: Value, upper: bool) -> Bounds
     requires { ⌜ field < fieldCount ⌝ }
     ensures { λ r. ⌜ Part field (number at) upper (bounds .words) (r .words) ⌝ }
 {
@@ -75,7 +75,7 @@ fn lowered(bounds: Bounds, field: usize, high: Value) -> Bounds
 }
 
 // What a box has in common with a code's row among these, in the fields from `field` on; if there is no such row, the box.
-pub fn common_in(rows: &[u64], code: u32, field: usize, bounds: Bounds) -> Bounds
+pub(crate) fn common_in(rows: &[u64], code: u32, field: usize, bounds: Bounds) -> Bounds
     ensures { λ r. ⌜ Common (now (rows .entry)) (rangesWord (rowOf code)) field (bounds .words) (r .words) ⌝ }
 {
     let base = ranges_word(code);

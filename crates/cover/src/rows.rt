@@ -13,14 +13,14 @@ use selectors::words::RANGES_WORDS;
 use selectors::words::ends_at;
 
 // The word at which the ranges of a code's row begin.
-pub fn ranges_word(code: u32) -> usize
+pub(crate) fn ranges_word(code: u32) -> usize
     ensures { λ r. ⌜ r ≡ rangesWord (rowOf code) ⌝ }
 {
     row_of(code) * ROW_WORDS + HEAD_WORDS
 }
 
 // Whether two ranges are apart: one ends before the other begins.
-pub fn ranges_apart(row: Ends, own: Ends) -> bool
+pub(crate) fn ranges_apart(row: Ends, own: Ends) -> bool
     ensures { λ r. ⌜ (r ≡ true → RangeApart (endsRange row) (endsRange own)) ⌝ }
 {
     if row.high.less(own.low) {
@@ -40,7 +40,7 @@ fn range_covers(row: Ends, own: Ends) -> bool
 }
 
 // Whether a code's row among these is known to be apart from a box, in the fields from `field` on.
-pub fn apart_in(rows: &[u64], code: u32, field: usize, bounds: &[u64; RANGES_WORDS]) -> bool
+pub(crate) fn apart_in(rows: &[u64], code: u32, field: usize, bounds: &[u64; RANGES_WORDS]) -> bool
     ensures { λ r. ⌜ (r ≡ true → Apart (now (rows .entry)) (rangesWord (rowOf code)) field (now (bounds .entry))) ⌝ }
 {
     let base = ranges_word(code);
@@ -59,7 +59,7 @@ pub fn apart_in(rows: &[u64], code: u32, field: usize, bounds: &[u64; RANGES_WOR
 }
 
 // Whether it covers the box, in the fields from `field` on.
-pub fn covers_in(rows: &[u64], code: u32, field: usize, bounds: &[u64; RANGES_WORDS]) -> bool
+pub(crate) fn covers_in(rows: &[u64], code: u32, field: usize, bounds: &[u64; RANGES_WORDS]) -> bool
     ensures { λ r. ⌜ (r ≡ true → Covers (now (rows .entry)) (rangesWord (rowOf code)) field (now (bounds .entry))) ⌝ }
 {
     let base = ranges_word(code);

@@ -152,7 +152,7 @@ fn better(best: Stand, s: Stand) -> Stand
 }
 
 // The first of the listed rows that covers the box, or else the best to split by.
-pub fn survey(
+pub(crate) fn survey(
     first: &[u64],
     second: &[u64],
     list: &[u32; MOST],

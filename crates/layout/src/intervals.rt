@@ -149,7 +149,7 @@ fn end_among(
 
 // The last value of the interval that begins at `from`: to it, both policies treat all values alike. The lists have the rows of the policies
 // that may part values of the branch's field.
-pub fn interval_end(
+pub(crate) fn interval_end(
     first: &[u64],
     second: &[u64],
     task: Task,

@@ -32,7 +32,7 @@ use selectors::words::ranges_hold;
 use selectors::words::selectors_of;
 
 // The point with another value of a field.
-pub fn with_value(point: Point, field: usize, value: Value) -> Point
+pub(crate) fn with_value(point: Point, field: usize, value: Value) -> Point
     requires { ⌜ field < fieldCount ⌝ }
     ensures { λ r. ⌜ r .words ≡ sets (point .words) (valueWords * field) (wordsOfValue (number value)) ⌝ }
 {
@@ -42,7 +42,7 @@ pub fn with_value(point: Point, field: usize, value: Value) -> Point
 }
 
 // Whether a row is for the direction and holds the point's values in the fields before `field`.
-pub fn active(
+pub(crate) fn active(
     rows: &[u64],
     row: usize,
     direction: Direction,
@@ -59,7 +59,7 @@ pub fn active(
 }
 
 // The range of a field in a row. Most of a layout's time goes here: lent as four words, the range is read without a test of its place.
-pub fn row_range(rows: &[u64], row: usize, field: usize) -> Ends
+pub(crate) fn row_range(rows: &[u64], row: usize, field: usize) -> Ends
     requires { ⌜ (field < fieldCount) × (row * rowWords + rowWords ≤ length (now rows)) ⌝ }
     ensures { λ r. ⌜ r ≡ endsAt (now (rows .entry)) (wordOf row field) ⌝ }
 {
@@ -79,7 +79,7 @@ fn listable(total: usize) -> usize
 }
 
 // Lists the rows for the direction, and counts them.
-pub fn rows_for(rows: &[u64], direction: Direction, list: &mut [u16; LIMIT]) -> usize
+pub(crate) fn rows_for(rows: &[u64], direction: Direction, list: &mut [u16; LIMIT]) -> usize
     requires { ⌜ length (now list) ≡ rowLimit ⌝ }
     ensures { λ r. ⌜ Lists direction (now (rows .entry)) 0 [] (now (list .exit)) r ⌝ }
 {
@@ -98,7 +98,7 @@ pub fn rows_for(rows: &[u64], direction: Direction, list: &mut [u16; LIMIT]) -> 
 }
 
 // Lists those of the first `total` listed rows whose ranges of the field hold the value, and counts them.
-pub fn narrow(
+pub(crate) fn narrow(
     rows: &[u64],
     old: &[u16; LIMIT],
     total: usize,
@@ -127,7 +127,7 @@ pub fn narrow(
 }
 
 // The word of the action that the ordered search finds at the point, whose values the listed rows hold.
-pub fn action_at(
+pub(crate) fn action_at(
     rows: &[u64],
     direction: Direction,
     point: Point,

@@ -90,7 +90,7 @@ fn stamp_row(room: &mut [u64], row: usize, field: usize, low: Value, high: Value
 }
 
 // Writes the range of the field of the rows a to b, without b.
-pub fn stamp(room: &mut [u64], a: usize, b: usize, field: usize, low: Value, high: Value)
+pub(crate) fn stamp(room: &mut [u64], a: usize, b: usize, field: usize, low: Value, high: Value)
     requires { ⌜ (field < fieldCount) × ((a ≤ b) × (b * rowWords ≤ length (now room))) ⌝ }
     ensures { λ _. ⌜ Stamped field (fieldCount - (field + 1)) a b (number low) (number high) (now (room .entry)) (now (room .exit)) ⌝ }
 {
@@ -131,7 +131,13 @@ fn place(room: &mut [u64], kept: Kept, count: usize, field: usize, from: Value) 
 }
 
 // The last interval goes on behind a value that is treated like the one before it; else as above.
-pub fn place_stretch(room: &mut [u64], kept: Kept, laid: Stretch, field: usize, from: Value) -> Kept
+pub(crate) fn place_stretch(
+    room: &mut [u64],
+    kept: Kept,
+    laid: Stretch,
+    field: usize,
+    from: Value,
+) -> Kept
     requires { ⌜ (field < fieldCount) × (kept .last ≤ kept .next) ⌝ }
     requires { ⌜ ((count : ℕ) → laid ≡ StretchRows count → (kept .next + count) * rowWords ≤ length (now room)) ⌝ }
     ensures { λ r. ⌜ PlacedStretch field (fieldCount - (field + 1)) kept laid (number from) (now (room .entry)) (now (room .exit)) r ⌝ }

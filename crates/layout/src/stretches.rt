@@ -26,7 +26,7 @@ use selectors::Value;
 use selectors::words::FIELDS;
 
 // Behind the last field stands the leaf, if the two policies part there.
-pub fn leaf(
+pub(crate) fn leaf(
     first: &[u64],
     second: &[u64],
     task: Task,
@@ -53,7 +53,7 @@ pub fn leaf(
     Laid::Rows(1)
 }
 
-pub fn is_over(laid: Stretch) -> bool
+pub(crate) fn is_over(laid: Stretch) -> bool
     ensures { λ r. ⌜ r ≡ isOver laid ⌝ }
 {
     match laid {
@@ -64,7 +64,7 @@ pub fn is_over(laid: Stretch) -> bool
 }
 
 // A layout as what is laid out behind a value.
-pub fn stretch_of(laid: Laid) -> Stretch
+pub(crate) fn stretch_of(laid: Laid) -> Stretch
     ensures { λ r. ⌜ r ≡ stretchOf laid ⌝ }
 {
     match laid {
@@ -116,7 +116,7 @@ fn all_listed(first: &[u64], second: &[u64]) -> bool
 }
 
 // Whether both policies are known to treat the value `from` of the branch's field like the one before it.
-pub fn joined(
+pub(crate) fn joined(
     first: &[u64],
     second: &[u64],
     task: Task,
@@ -155,7 +155,7 @@ pub fn joined(
 }
 
 // Whether both policies are known to agree behind the branch's point, whatever its field and those after it hold.
-pub fn known_alike(
+pub(crate) fn known_alike(
     first: &[u64],
     second: &[u64],
     task: Task,
