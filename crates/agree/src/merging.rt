@@ -11,9 +11,9 @@ ghost use Rattle.agree.specs.Sides.{There, sidesOf, SideRows, Next, rowB
 use crate::BOTH;
 use crate::FIRST;
 use crate::SECOND;
-use cover::HEAD_WORDS;
 use cover::MOST;
 use cover::wide;
+use policy::HEAD_WORDS;
 use policy::LIMIT;
 use policy::ROW_WORDS;
 use selectors::AddressRange;

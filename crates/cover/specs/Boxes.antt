@@ -8,12 +8,12 @@ use lib.Dec.{eqb, ltb}
 use lib.ListN.{getD}
 use Rattle.selectors.specs.Range.{Range, contains, holds}
 use Rattle.selectors.specs.Words.{fieldCount, rangesFrom}
-use Rattle.policy.specs.Words.{rowWords}
+use Rattle.policy.specs.Words.{headWords, rowWords}
 use Rattle.cover.specs.declared.Stand.{Stand}
 
 -- The word at which the ranges of the row i begin: those of its direction and its action come first.
 abbrev pub rangesWord : ℕ → ℕ
-rangesWord i = i * rowWords + 2
+rangesWord i = i * rowWords + headWords
 
 -- The ranges of the fields from f on, of the five from the word `at` on.
 abbrev pub rangesBehind : List ℕ → ℕ → ℕ → List Range

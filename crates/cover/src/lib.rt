@@ -14,6 +14,7 @@ use crate::rows::apart_in;
 use crate::rows::covers_in;
 use crate::rows::ranges_apart;
 use crate::stands::survey;
+use policy::HEAD_WORDS;
 use policy::LIMIT;
 use policy::ROW_WORDS;
 use selectors::Value;
@@ -24,9 +25,6 @@ use selectors::words::ends_at;
 
 // A list of rows has at most the limit's rows of each of two policies.
 pub const MOST: usize = 2 * LIMIT;
-
-// The words of a row before its ranges: those of its direction and its action.
-pub const HEAD_WORDS: usize = ROW_WORDS - RANGES_WORDS;
 
 // How deep a box is split.
 const DEPTH: usize = 32;

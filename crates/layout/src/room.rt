@@ -14,7 +14,7 @@ ghost use Rattle.layout.specs.Stretches.{PlacedStretch};
 ghost use Rattle.layout.specs.declared.Stretch.the-variants.{Rows as StretchRows};
 use crate::Kept;
 use crate::Stretch;
-use cover::HEAD_WORDS;
+use policy::HEAD_WORDS;
 use policy::ROW_WORDS;
 use selectors::Ends;
 use selectors::Value;

@@ -35,8 +35,12 @@ actionWord Discard = 0
 actionWord Bypass = 1
 actionWord (Protect n) = n + 2
 
+-- The words of a row before its ranges, and the words of a row.
+abbrev pub headWords : ℕ
+headWords = 2
+
 abbrev pub rowWords : ℕ
-rowWords = 2 + rangesWords
+rowWords = headWords + rangesWords
 
 -- The most rows of a policy (21) and of a normal form (22), and the words of so many rows.
 abbrev pub rowLimit : ℕ
@@ -47,7 +51,7 @@ policyWords = rowLimit * rowWords
 
 -- The row whose first word is the word `at`.
 unfoldable pub rowAt : List ℕ → ℕ → PolicyRow
-rowAt ws at = record { direction = directionOf (getD ws at 0); action = actionOf (getD ws (at + 1) 0); ranges = rangesAt ws (at + 2) }
+rowAt ws at = record { direction = directionOf (getD ws at 0); action = actionOf (getD ws (at + 1) 0); ranges = rangesAt ws (at + headWords) }
 
 -- n rows from the row i on.
 unfoldable pub rowsFrom : List ℕ → ℕ → ℕ → List PolicyRow

@@ -48,8 +48,10 @@ pub struct Row {
     pub remote_port: PortRange,
 }
 
-// The words of a row: its direction, its action, and a range for each field.
-pub const ROW_WORDS: usize = 2 + RANGES_WORDS;
+// The words of a row before its ranges, its direction and its action; and the words of a row, with a range for each field.
+pub const HEAD_WORDS: usize = 2;
+
+pub const ROW_WORDS: usize = HEAD_WORDS + RANGES_WORDS;
 
 // The most rows that a policy and a normal form may have (document 01, 21 and 22), and their words.
 pub const LIMIT: usize = 256;
@@ -115,7 +117,7 @@ fn row_matches(
     if !direction_of(rows[at]).applies_to(direction) {
         return false;
     }
-    ranges_hold(rows, at + 2, values, FIELDS)
+    ranges_hold(rows, at + HEAD_WORDS, values, FIELDS)
 }
 
 // The first row for the direction that holds the values.
@@ -182,5 +184,5 @@ pub fn put_row(rows: &mut [u64], at: usize, row: Row)
     }
     put_word(rows, at, row.direction);
     put_word(rows, at + 1, row.action);
-    put_ranges(rows, at + 2, ranges_of(row));
+    put_ranges(rows, at + HEAD_WORDS, ranges_of(row));
 }

@@ -19,9 +19,13 @@ countAt In = 2
 abbrev pub countOf : ℕ → List ℕ → Direction → ℕ
 countOf capacity ws d = min (getD ws (countAt d) 0) capacity
 
+-- The words before the rows: the address and the two counts.
+abbrev pub beforeRows : ℕ
+beforeRows = 3
+
 abbrev pub rowsAt : ℕ → Direction → ℕ
-rowsAt capacity Out = 3
-rowsAt capacity In = 3 + capacity * rowWords
+rowsAt capacity Out = beforeRows
+rowsAt capacity In = beforeRows + capacity * rowWords
 
 abbrev pub spdSize : ℕ → ℕ
 spdSize capacity = rowsAt capacity In + capacity * rowWords
