@@ -51,24 +51,33 @@ fn rust_like(
 }
 
 /// A count as the exports write it: a number, or a constant of the crates below: a sum of products of
-/// such.
+/// such. Two crates may have a constant of one name: that of the file itself goes first.
 fn count(written: &str) -> usize {
-    if let Ok(number) = written.parse() {
-        return number;
-    }
     let files = [
+        "specksonne/src/lib.rt",
         "selectors/src/words.rt",
         "policy/src/lib.rt",
         "sad/src/lib.rt",
         "spd_cache/src/lib.rt",
         "spd_cache/src/lent.rt",
         "spd/src/lib.rt",
-        "specksonne/src/lib.rt",
     ];
-    let sources = files.map(|file| text(&format!("crates/{file}"))).concat();
+    count_from(written, &files.map(|file| text(&format!("crates/{file}"))), 0)
+}
+
+fn count_from(written: &str, sources: &[String], own: usize) -> usize {
+    if let Ok(number) = written.parse() {
+        return number;
+    }
     let definition = format!("const {written}: usize = ");
-    let (value, _) = between(&sources, &definition, ";").unwrap_or_else(|| panic!("{written}"));
-    value.split(" + ").map(|term| term.split(" * ").map(count).product::<usize>()).sum()
+    let places = std::iter::once(own).chain(0..sources.len());
+    let found =
+        places.filter_map(|place| Some((place, between(&sources[place], &definition, ";")?.0)));
+    let (place, value) = found.into_iter().next().unwrap_or_else(|| panic!("{written}"));
+    let product = |term: &str| -> usize {
+        term.split(" * ").map(|factor| count_from(factor, sources, place)).product()
+    };
+    value.split(" + ").map(product).sum()
 }
 
 /// A slice is a pointer and a count; an array is a pointer to that many; a row record is 22 words.
