@@ -1,7 +1,7 @@
 // Directions, pairs, actions and packets as the numbers and words by which they cross to C.
 ghost use Rattle.std.specs.Prelude.{◌≡◌, length};
-ghost use Rattle.packet.specs.Read.{triggerOf};
-ghost use Rattle.abi.specs.Words.{directionFrom, pairFrom, actionKind, actionNumber, isFound, placeFound, triggerPart};
+ghost use Rattle.packet.specs.Read.{trigger_of};
+ghost use Rattle.abi.specs.Words.{direction_of_number, pair_from, kind_of_action, number_of_action, is_found, place_found, trigger_part};
 
 use packet::Packet;
 use policy::{Action, Found};
@@ -10,7 +10,7 @@ use selectors::Direction;
 use selectors::words::{RANGES_WORDS, ranges_at};
 
 pub fn direction_from(number: u64) -> Direction
-    ensures { result ≡ directionFrom number }
+    ensures { result ≡ direction_of_number number }
 {
     if number == 1 {
         return Direction::Out;
@@ -25,7 +25,7 @@ pub fn pair_from(
     number: u64,
     ranges: &[u64; RANGES_WORDS],
 ) -> NewPair
-    ensures { result ≡ pairFrom protocol spi_in spi_out number ranges.now }
+    ensures { result ≡ pair_from protocol spi_in spi_out number ranges.now }
 {
     NewPair {
         protocol,
@@ -37,7 +37,7 @@ pub fn pair_from(
 }
 
 pub fn action_kind(action: Action) -> u64
-    ensures { result ≡ actionKind action }
+    ensures { result ≡ kind_of_action action }
 {
     match action {
         Action::Discard => 0,
@@ -47,7 +47,7 @@ pub fn action_kind(action: Action) -> u64
 }
 
 pub fn action_number(action: Action) -> u64
-    ensures { result ≡ actionNumber action }
+    ensures { result ≡ number_of_action action }
 {
     match action {
         Action::Discard => 0,
@@ -57,7 +57,7 @@ pub fn action_number(action: Action) -> u64
 }
 
 pub fn is_found(found: Found) -> bool
-    ensures { result ≡ isFound found }
+    ensures { result ≡ is_found found }
 {
     match found {
         Found::Row(_) => true,
@@ -66,7 +66,7 @@ pub fn is_found(found: Found) -> bool
 }
 
 pub fn place_found(found: Found) -> u64
-    ensures { result ≡ placeFound found }
+    ensures { result ≡ place_found found }
 {
     match found {
         Found::Row(place) => place as u64,
@@ -76,7 +76,7 @@ pub fn place_found(found: Found) -> u64
 
 // Where the triggering header starts and how long it is.
 pub fn trigger_part(bytes: &[u8], packet: Packet) -> [u64; 2]
-    ensures { result ≡ triggerPart packet.end (length (triggerOf bytes.now packet.upper packet.end)) }
+    ensures { result ≡ trigger_part packet.end (length (trigger_of bytes.now packet.upper packet.end)) }
 {
     let header = packet::trigger(bytes, packet);
     let long = header.len();

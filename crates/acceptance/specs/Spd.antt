@@ -3,9 +3,9 @@ use Rattle.std.specs.Prelude.{ℕ, cond, List, [], ◌∷◌, ◌++◌, leb, len
 use Rattle.selectors.specs.declared.Direction.{Direction}
 use Rattle.selectors.specs.declared.Direction.TheVariants.{Out, In}
 use Rattle.policy_text.specs.declared.Edition.TheVariants.{One}
-use Rattle.policy_text.specs.Editions.{Rules, rules, Policy, refused, rows, refusalNumber, refusalCarries}
-use Rattle.decorrelate.specs.Form.{form, formRoom, directionNumber}
-use Rattle.spd_cache.specs.Cache.{emptyCache}
+use Rattle.policy_text.specs.Editions.{Rules, rules, Policy, refused, rows, refusal_number, refusal_carries}
+use Rattle.decorrelate.specs.Form.{form, form_room, direction_number}
+use Rattle.spd_cache.specs.Cache.{empty_cache}
 use Rattle.spd.specs.Words.{address_of}
 use Rattle.acceptance.specs.declared.Acceptance.{Acceptance}
 use Rattle.acceptance.specs.declared.Acceptance.TheVariants.{Accepted, Refused, TooLarge}
@@ -13,18 +13,18 @@ use Rattle.acceptance.specs.declared.Caches.{Caches}
 use Rattle.acceptance.specs.declared.Settled.{Settled}
 
 -- The words of a gateway with this address: the counts of the rows for out and for in, and a room for the rows of each.
-abbrev pub heldWords : ℕ → ℕ → List ℕ → ℕ → List ℕ → List ℕ
-heldWords address outCount outRoom inCount inRoom = address ∷ outCount ∷ inCount ∷ (outRoom ++ inRoom)
+abbrev pub held_words : ℕ → ℕ → List ℕ → ℕ → List ℕ → List ℕ
+held_words address outCount outRoom inCount inRoom = address ∷ outCount ∷ inCount ∷ (outRoom ++ inRoom)
 
 -- The words of a gateway with this address that holds this policy: 'A fresh gate holds the gateway address it was made with, never
 -- changed, the policy without rows'. Each room is for `capacity` rows.
-abbrev pub spdWords : ℕ → ℕ → Rules → List ℕ
-spdWords capacity address rs =
-    heldWords address (length (form Out rs)) (formRoom capacity Out rs) (length (form In rs)) (formRoom capacity In rs)
+abbrev pub spd_words : ℕ → ℕ → Rules → List ℕ
+spd_words capacity address rs =
+    held_words address (length (form Out rs)) (form_room capacity Out rs) (length (form In rs)) (form_room capacity In rs)
 
 -- 'The policy without rows', which a fresh gate holds: one of edition 1.
-abbrev pub noRules : Rules
-noRules = rules One []
+abbrev pub no_rules : Rules
+no_rules = rules One []
 
 -- 'A policy is checked in the order 23, 24, 21, 20 (first bad row), 22', and 22 has the 'way, out tried first'.
 abbrev pub accepting : ℕ → Policy → Acceptance
@@ -35,38 +35,38 @@ accepting limit (rows rs) =
     (TooLarge Out)
 
 -- 'Answers 10 and up for a policy … change nothing lent.'
-abbrev pub ifAccepted : {A : Type 0} → Acceptance → A → A → A
-ifAccepted Accepted new old = new
-ifAccepted (Refused r) new old = old
-ifAccepted (TooLarge d) new old = old
+abbrev pub if_accepted : {A : Type 0} → Acceptance → A → A → A
+if_accepted Accepted new old = new
+if_accepted (Refused r) new old = old
+if_accepted (TooLarge d) new old = old
 
 -- The words after a policy file. The address is 'never changed'.
-abbrev pub spdAfter : ℕ → ℕ → List ℕ → Policy → List ℕ
-spdAfter capacity limit ws (refused p) = ws
-spdAfter capacity limit ws (rows rs) = ifAccepted (accepting limit (rows rs)) (spdWords capacity (address_of ws) rs) ws
+abbrev pub spd_after : ℕ → ℕ → List ℕ → Policy → List ℕ
+spd_after capacity limit ws (refused p) = ws
+spd_after capacity limit ws (rows rs) = if_accepted (accepting limit (rows rs)) (spd_words capacity (address_of ws) rs) ws
 
 -- 'A fresh gate holds … empty caches.'
-abbrev pub emptyCaches : Caches
-emptyCaches = record { outbound = emptyCache; inbound = emptyCache }
+abbrev pub empty_caches : Caches
+empty_caches = record { outbound = empty_cache; inbound = empty_cache }
 
 -- 'An accepted policy empties both caches, sets both turns to the first slot and keeps the pairs.'
-abbrev pub cachesAfter : ℕ → Caches → Policy → Caches
-cachesAfter limit c p = ifAccepted (accepting limit p) emptyCaches c
+abbrev pub caches_after : ℕ → Caches → Policy → Caches
+caches_after limit c p = if_accepted (accepting limit p) empty_caches c
 
 -- What a policy file is answered with: the answer, and the caches after it.
 abbrev pub answer : Acceptance → Caches → Settled
 answer a c = record { acceptance = a; caches = c }
 
 abbrev pub settled : ℕ → Caches → Policy → Settled
-settled limit c p = answer (accepting limit p) (cachesAfter limit c p)
+settled limit c p = answer (accepting limit p) (caches_after limit c p)
 
 -- Document 01's numbers, and what they carry: what a refusal carries, or the way.
-abbrev pub acceptanceNumber : Acceptance → ℕ
-acceptanceNumber Accepted = 5
-acceptanceNumber (Refused r) = refusalNumber r
-acceptanceNumber (TooLarge d) = 22
+abbrev pub acceptance_number : Acceptance → ℕ
+acceptance_number Accepted = 5
+acceptance_number (Refused r) = refusal_number r
+acceptance_number (TooLarge d) = 22
 
-abbrev pub acceptanceCarries : Acceptance → ℕ
-acceptanceCarries Accepted = 0
-acceptanceCarries (Refused r) = refusalCarries r
-acceptanceCarries (TooLarge d) = directionNumber d
+abbrev pub acceptance_carries : Acceptance → ℕ
+acceptance_carries Accepted = 0
+acceptance_carries (Refused r) = refusal_carries r
+acceptance_carries (TooLarge d) = direction_number d

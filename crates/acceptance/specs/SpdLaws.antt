@@ -7,25 +7,25 @@ use Rattle.std.proofs.lemmas.Bool.{lt-leb}
 use Rattle.selectors.specs.declared.Direction.{Direction}
 use Rattle.selectors.specs.declared.Direction.TheVariants.{Out, In}
 use Rattle.normal_form.specs.Search.{Combination}
-use Rattle.policy.specs.Policy.{orderedSearch}
-use Rattle.policy.specs.Words.{rowWords, policyRows, wordsOfAll}
+use Rattle.policy.specs.Policy.{ordered_search}
+use Rattle.policy.specs.Words.{row_words, policy_rows, words_of_all}
 use Rattle.policy_text.specs.declared.Edition.TheVariants.{One}
-use Rattle.policy_text.specs.Editions.{editionSizes, Rules, Policy, refused, rows}
-use Rattle.decorrelate.specs.Form.{form, formWords, padded, formRoom}
+use Rattle.policy_text.specs.Editions.{edition_sizes, Rules, Policy, refused, rows}
+use Rattle.decorrelate.specs.Form.{form, form_words, padded, form_room}
 use Rattle.decorrelate.specs.AgreeLaws.{empty-form}
-use Rattle.decorrelate.specs.FormLaws.{form-words-length, form-search}
-use Rattle.decorrelate.specs.RoomLaws.{padded-size, padded-start}
+use Rattle.decorrelate.specs.FormLaws.{form_words-length, form_search}
+use Rattle.decorrelate.specs.RoomLaws.{padded_size, padded_start}
 use Rattle.acceptance.specs.declared.Acceptance.{Acceptance}
 use Rattle.acceptance.specs.declared.Acceptance.TheVariants.{Accepted, Refused, TooLarge}
-use Rattle.acceptance.specs.Spd.{heldWords, spdWords, noRules, accepting, ifAccepted, spdAfter}
-use Rattle.spd.specs.Words.{spdSize, address_of, rows_of, rows_at}
+use Rattle.acceptance.specs.Spd.{held_words, spd_words, no_rules, accepting, if_accepted, spd_after}
+use Rattle.spd.specs.Words.{spd_size, address_of, rows_of, rows_at}
 
 -- The words of the policy without rows.
 pub empty-words : (capacity a : ℕ)
-    → heldWords a 0 (replicate (capacity * rowWords) 0) 0 (replicate (capacity * rowWords) 0) ≡ spdWords capacity a noRules
-unfolding wordsOfAll padded
+    → held_words a 0 (replicate (capacity * row_words) 0) 0 (replicate (capacity * row_words) 0) ≡ spd_words capacity a no_rules
+unfolding words_of_all padded
 empty-words capacity a =
-    let e : capacity * rowWords - length (formWords []) ≡ capacity * rowWords = omega arith in
+    let e : capacity * row_words - length (form_words []) ≡ capacity * row_words = omega arith in
     rw (empty-form Out One, empty-form In One, e)
 
 -- The normal form for each direction is within a number of rows.
@@ -33,8 +33,8 @@ pub record Within (most : ℕ) (rs : Rules) : Type 0 where
   pub out_within : length (form Out rs) ≤ most
   pub in_within : length (form In rs) ≤ most
 
-pub empty-within : (most : ℕ) → Within most noRules
-empty-within most = record { out_within = rw (empty-form Out One) (omega arith); in_within = rw (empty-form In One) (omega arith) }
+pub empty_within : (most : ℕ) → Within most no_rules
+empty_within most = record { out_within = rw (empty-form Out One) (omega arith); in_within = rw (empty-form In One) (omega arith) }
 
 -- What is within the limit is within every capacity that carries it.
 pub within_more : (limit capacity : ℕ) → limit ≤ capacity → (rs : Rules) → Within limit rs → Within capacity rs
@@ -43,40 +43,40 @@ within_more limit capacity bound rs w =
 
 -- The room of a direction, for `capacity` rows.
 module _ (capacity : ℕ) (d : Direction) (rs : Rules) (h : length (form d rs) ≤ capacity) where
-  room-size : length (formRoom capacity d rs) ≡ capacity * rowWords
-  room-size = padded-size (capacity * rowWords) (formWords (form d rs)) (omega (arith, form-words-length d rs))
+  room_size : length (form_room capacity d rs) ≡ capacity * row_words
+  room_size = padded_size (capacity * row_words) (form_words (form d rs)) (omega (arith, form_words-length d rs))
 
   -- As many words as the rows have, at its start.
-  rows_start : take (min (length (form d rs)) capacity * rowWords) (formRoom capacity d rs) ≡ formWords (form d rs)
+  rows_start : take (min (length (form d rs)) capacity * row_words) (form_room capacity d rs) ≡ form_words (form d rs)
   rows_start =
-      padded-start (capacity * rowWords) (formWords (form d rs)) (min (length (form d rs)) capacity * rowWords) (omega (arith, form-words-length d rs))
+      padded_start (capacity * row_words) (form_words (form d rs)) (min (length (form d rs)) capacity * row_words) (omega (arith, form_words-length d rs))
 
 -- A policy whose normal forms the words carry.
 module _ (capacity address : ℕ) (rs : Rules) (w : Within capacity rs) where
-  pub spd-size : length (spdWords capacity address rs) ≡ spdSize capacity
-  spd-size = omega (arith, length-append (formRoom capacity Out rs) (formRoom capacity In rs), room-size capacity Out rs w.out_within, room-size capacity In rs w.in_within)
+  pub spd-size : length (spd_words capacity address rs) ≡ spd_size capacity
+  spd-size = omega (arith, length-append (form_room capacity Out rs) (form_room capacity In rs), room_size capacity Out rs w.out_within, room_size capacity In rs w.in_within)
 
-  pub spd-address : address_of (spdWords capacity address rs) ≡ address
+  pub spd-address : address_of (spd_words capacity address rs) ≡ address
   spd-address = refl
 
   -- The rows that the words hold for a direction are those of the policy's normal form.
-  pub spd-rows : (d : Direction) → rows_of capacity (spdWords capacity address rs) d ≡ formWords (form d rs)
-  spd-rows Out =
-      take-append-le (min (length (form Out rs)) capacity * rowWords) (formRoom capacity Out rs) (formRoom capacity In rs) (omega (arith, room-size capacity Out rs w.out_within))
+  pub spd_rows : (d : Direction) → rows_of capacity (spd_words capacity address rs) d ≡ form_words (form d rs)
+  spd_rows Out =
+      take-append-le (min (length (form Out rs)) capacity * row_words) (form_room capacity Out rs) (form_room capacity In rs) (omega (arith, room_size capacity Out rs w.out_within))
       ∙ rows_start capacity Out rs w.out_within
-  spd-rows In =
-      ap (take (min (length (form In rs)) capacity * rowWords))
-      (drop_at (address ∷ length (form Out rs) ∷ length (form In rs) ∷ formRoom capacity Out rs) (formRoom capacity In rs) (rows_at capacity In) (omega (arith, room-size capacity Out rs w.out_within)))
+  spd_rows In =
+      ap (take (min (length (form In rs)) capacity * row_words))
+      (drop_at (address ∷ length (form Out rs) ∷ length (form In rs) ∷ form_room capacity Out rs) (form_room capacity In rs) (rows_at capacity In) (omega (arith, room_size capacity Out rs w.out_within)))
       ∙ rows_start capacity In rs w.in_within
 
   -- Searching them is searching the policy.
-  pub spd-search : (d : Direction) (vs : List ℕ) → Combination (editionSizes rs.edition) vs
-      → orderedSearch d (policyRows (rows_of capacity (spdWords capacity address rs) d)) vs ≡ orderedSearch d rs.entries vs
-  spd-search d vs ok = rw (spd-rows d) (form-search d rs d vs ok)
+  pub spd_search : (d : Direction) (vs : List ℕ) → Combination (edition_sizes rs.edition) vs
+      → ordered_search d (policy_rows (rows_of capacity (spd_words capacity address rs) d)) vs ≡ ordered_search d rs.entries vs
+  spd_search d vs ok = rw (spd_rows d) (form_search d rs d vs ok)
 
 -- A policy of these rows is accepted exactly where both normal forms are within the limit.
-pub accepted-exactly : (limit : ℕ) (rs : Rules) → (accepting limit (rows rs) ≡ Accepted) ↔ Within limit rs
-accepted-exactly limit rs = by (dec_le (length (form Out rs)) limit) (dec_le (length (form In rs)) limit)
+pub accepted_exactly : (limit : ℕ) (rs : Rules) → (accepting limit (rows rs) ≡ Accepted) ↔ Within limit rs
+accepted_exactly limit rs = by (dec_le (length (form Out rs)) limit) (dec_le (length (form In rs)) limit)
   where
     refused_as : (d : Direction) → TooLarge d ≡ Accepted → ⊥
     refused_as d e = let z : ◌≡◌ {A = ℕ} 0 1 = cc in omega arith
@@ -91,11 +91,11 @@ accepted-exactly limit rs = by (dec_le (length (form Out rs)) limit) (dec_le (le
     by (no g) d = (λ e. absurd (refused_as Out (rw (lt-leb (length (form Out rs)) limit (omega arith)) at e)), λ w. absurd (g w.out_within))
 
 -- The address is 'never changed'.
-pub address_kept : (capacity limit : ℕ) (ws : List ℕ) (p : Policy) → address_of (spdAfter capacity limit ws p) ≡ address_of ws
+pub address_kept : (capacity limit : ℕ) (ws : List ℕ) (p : Policy) → address_of (spd_after capacity limit ws p) ≡ address_of ws
 address_kept capacity limit ws (refused p) = refl
 address_kept capacity limit ws (rows rs) = by (accepting limit (rows rs))
   where
-    by : (a : Acceptance) → address_of (ifAccepted a (spdWords capacity (address_of ws) rs) ws) ≡ address_of ws
+    by : (a : Acceptance) → address_of (if_accepted a (spd_words capacity (address_of ws) rs) ws) ≡ address_of ws
     by Accepted = refl
     by (Refused r) = refl
     by (TooLarge d) = refl

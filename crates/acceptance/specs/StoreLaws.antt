@@ -3,9 +3,9 @@ use Rattle.std.specs.Prelude.{ℕ, suc, ◌+◌, ◌*◌, ◌≤◌, ◌≡◌, 
 use Rattle.std.proofs.Common.{arith, ap, ◌∙◌, append-nil, length-append, length-drop, drop_of_length-le, take_all, take_at}
 use Rattle.std.proofs.Math.Seq.{paste}
 use Rattle.selectors.specs.declared.Direction.TheVariants.{In}
-use Rattle.policy.specs.Words.{rowWords}
-use Rattle.spd.specs.Words.{spdSize, rows_at}
-use Rattle.acceptance.specs.Spd.{heldWords}
+use Rattle.policy.specs.Words.{row_words}
+use Rattle.spd.specs.Words.{spd_size, rows_at}
+use Rattle.acceptance.specs.Spd.{held_words}
 
 -- The address, the counts and both rooms, of k words, written to their places.
 rooms-written : (k : ℕ) (ws : List ℕ) (address n m : ℕ) (a b : List ℕ) → length ws ≡ 3 + k + k → length a ≡ k → length b ≡ k
@@ -23,8 +23,8 @@ rooms-written k (x ∷ y ∷ z ∷ rest) address n m a b h p q =
     ∙ rw (take_at front tail (3 + k) (omega arith), take_all k b (omega arith), drop_of_length-le (front ++ tail) {i = 3 + k + k} size)
     (append-nil (front ++ b))
 
-pub held-written : (capacity : ℕ) (ws : List ℕ) (address n m : ℕ) (a b : List ℕ) → length ws ≡ spdSize capacity
-    → length a ≡ capacity * rowWords → length b ≡ capacity * rowWords
-    → paste (paste (set (set (set ws 0 address) 1 n) 2 m) 3 a (capacity * rowWords)) (rows_at capacity In) b (capacity * rowWords)
-    ≡ heldWords address n a m b
-held-written capacity ws address n m a b h p q = rooms-written (capacity * rowWords) ws address n m a b h p q
+pub held-written : (capacity : ℕ) (ws : List ℕ) (address n m : ℕ) (a b : List ℕ) → length ws ≡ spd_size capacity
+    → length a ≡ capacity * row_words → length b ≡ capacity * row_words
+    → paste (paste (set (set (set ws 0 address) 1 n) 2 m) 3 a (capacity * row_words)) (rows_at capacity In) b (capacity * row_words)
+    ≡ held_words address n a m b
+held-written capacity ws address n m a b h p q = rooms-written (capacity * row_words) ws address n m a b h p q

@@ -1,9 +1,9 @@
 // A fresh gateway's policy, and policy acceptance (document 01; docs/RULES.md, 'The order of checks').
 ghost use Rattle.std.specs.Prelude.{◌≡◌, ◌+◌, ◌≤◌, length};
 ghost use Rattle.std.proofs.Math.Seq.{paste};
-ghost use Rattle.policy.specs.Words.{policyRows, policyWords, rowLimit};
-ghost use Rattle.policy_text.specs.Editions.{rules, rows, parsePolicy};
-ghost use Rattle.acceptance.specs.Spd.{heldWords, spdWords, noRules, spdAfter, emptyCaches, answer, settled};
+ghost use Rattle.policy.specs.Words.{policy_rows, policy_words, row_limit};
+ghost use Rattle.policy_text.specs.Editions.{rules, rows, parse_policy};
+ghost use Rattle.acceptance.specs.Spd.{held_words, spd_words, no_rules, spd_after, empty_caches, answer, settled};
 
 use decorrelate::Form;
 use policy::{POLICY_WORDS, ROW_WORDS};
@@ -38,7 +38,7 @@ pub struct Settled {
 }
 
 fn empty_caches() -> Caches
-    ensures { result ≡ emptyCaches }
+    ensures { result ≡ empty_caches }
 {
     Caches {
         outbound: Cache::empty(),
@@ -48,8 +48,8 @@ fn empty_caches() -> Caches
 
 // Writes the room of one direction, from the place `at` on.
 fn store(words: &mut [u64], at: usize, room: &[u64])
-    requires { (at + policyWords ≤ length words.old) × (length room.now ≡ policyWords) }
-    ensures { words.new ≡ paste words.old at room.now policyWords }
+    requires { (at + policy_words ≤ length words.old) × (length room.now ≡ policy_words) }
+    ensures { words.new ≡ paste words.old at room.now policy_words }
 {
     let mut i: usize = 0;
     while i < POLICY_WORDS {
@@ -67,7 +67,7 @@ fn write(
     in_count: usize,
     inbound: &[u64; POLICY_WORDS],
 )
-    ensures { words.new ≡ heldWords address out_count outbound.now in_count inbound.now }
+    ensures { words.new ≡ held_words address out_count outbound.now in_count inbound.now }
 {
     words[0] = address;
     words[1] = out_count as u64;
@@ -78,7 +78,7 @@ fn write(
 
 // A fresh gateway holds its address and the policy without rows.
 pub fn fresh(words: &mut [u64; SPD_WORDS], address: u32) -> Caches
-    ensures { (result ≡ emptyCaches) × (words.new ≡ spdWords rowLimit address noRules) }
+    ensures { (result ≡ empty_caches) × (words.new ≡ spd_words row_limit address no_rules) }
 {
     let none = [0u64; POLICY_WORDS];
     write(words, address as u64, 0, &none, 0, &none);
@@ -94,8 +94,8 @@ fn refuse(acceptance: Acceptance, caches: Caches) -> Settled
 
 // Takes the rows of a policy: both normal forms are laid out before anything lent is written.
 fn load(words: &mut [u64; SPD_WORDS], caches: Caches, edition: Edition, policy: &[u64]) -> Settled
-    ensures value { result ≡ settled rowLimit caches (rows (rules edition (policyRows policy.now))) }
-    ensures words_after { words.new ≡ spdAfter rowLimit rowLimit words.old (rows (rules edition (policyRows policy.now))) }
+    ensures value { result ≡ settled row_limit caches (rows (rules edition (policy_rows policy.now))) }
+    ensures words_after { words.new ≡ spd_after row_limit row_limit words.old (rows (rules edition (policy_rows policy.now))) }
 {
     let mut outbound = [0u64; POLICY_WORDS];
     let out_form = decorrelate::form_of(edition, policy, Direction::Out, &mut outbound);
@@ -117,8 +117,8 @@ fn load(words: &mut [u64; SPD_WORDS], caches: Caches, edition: Edition, policy: 
 
 // The policy of a policy file replaces the one that the gateway holds, and empties the caches; a refusal changes nothing.
 pub fn accept(words: &mut [u64; SPD_WORDS], caches: Caches, bytes: &[u8]) -> Settled
-    ensures value { result ≡ settled rowLimit caches (parsePolicy rowLimit bytes.now) }
-    ensures words_after { words.new ≡ spdAfter rowLimit rowLimit words.old (parsePolicy rowLimit bytes.now) }
+    ensures value { result ≡ settled row_limit caches (parse_policy row_limit bytes.now) }
+    ensures words_after { words.new ≡ spd_after row_limit row_limit words.old (parse_policy row_limit bytes.now) }
 {
     let mut policy = [0u64; POLICY_WORDS];
     let file = policy_parse::parse_policy(bytes, &mut policy);

@@ -3,30 +3,30 @@
 -- everything and discards.
 use Rattle.std.specs.Prelude.{ℕ, zero, suc, ◌+◌, ◌-◌, ◌*◌, ◌/◌, ◌%◌, ◌≤◌, ◌<◌, ◌≡◌, Bool, true, false, not, cond, List, [], ◌∷◌, map, ◌≢◌, ◌⊎◌, eqb, ltb, length, get_or, take}
 use Rattle.selectors.specs.Range.{Range, contains}
-use Rattle.selectors.specs.Words.{rangeWords, rangeAt}
+use Rattle.selectors.specs.Words.{range_words, range_at}
 use Rattle.normal_form.specs.Search.{Row, row, find}
-use Rattle.policy.specs.Words.{rowWords, rowLimit}
-use Rattle.cover.specs.Boxes.{rangesWord, rangesBehind, InBox, row_of, table_of, codeHolds}
+use Rattle.policy.specs.Words.{row_words, row_limit}
+use Rattle.cover.specs.Boxes.{ranges_word, ranges_behind, InBox, row_of, table_of, code_holds}
 
 -- The word of the action of the row i; and whether the row does not discard.
-abbrev pub actionIn : List ℕ → ℕ → ℕ
-actionIn ws i = get_or ws (i * rowWords + 1) 0
+abbrev pub action_in : List ℕ → ℕ → ℕ
+action_in ws i = get_or ws (i * row_words + 1) 0
 
-abbrev pub doesAct : List ℕ → ℕ → Bool
-doesAct ws i = not (eqb (actionIn ws i) 0)
+abbrev pub does_act : List ℕ → ℕ → Bool
+does_act ws i = not (eqb (action_in ws i) 0)
 
 -- The row i of a policy, from the field f on, with the word of its action.
-abbrev pub rowBehind : List ℕ → ℕ → ℕ → Row ℕ
-rowBehind ws f i = row (rangesBehind ws (rangesWord i) f) (actionIn ws i)
+abbrev pub row_behind : List ℕ → ℕ → ℕ → Row ℕ
+row_behind ws f i = row (ranges_behind ws (ranges_word i) f) (action_in ws i)
 
 -- Two lists of rows, by their places in two policies, give the same action throughout a box: 0, discard, where no row holds the values.
 unfoldable pub Alike : ℕ → List ℕ → List ℕ → List ℕ → List ℕ → List ℕ → Type 0
 Alike f bs first xs second ys =
-    (us : List ℕ) → InBox f bs us → find 0 (map (rowBehind first f) xs) us ≡ find 0 (map (rowBehind second f) ys) us
+    (us : List ℕ) → InBox f bs us → find 0 (map (row_behind first f) xs) us ≡ find 0 (map (row_behind second f) ys) us
 
 -- The range of the field f in the row i.
 abbrev pub range_of : List ℕ → ℕ → ℕ → Range
-range_of ws i f = rangeAt ws (rangesWord i + rangeWords * f)
+range_of ws i f = range_at ws (ranges_word i + range_words * f)
 
 -- Those of the numbers for which the test is true.
 unfoldable pub those : (ℕ → Bool) → List ℕ → List ℕ
@@ -34,11 +34,11 @@ those p [] = []
 those p (x ∷ xs) = cond (p x) (x ∷ those p xs) (those p xs)
 
 -- The row of a code is on the second side, or on the first; and the word of its action.
-abbrev pub onSide : Bool → ℕ → Bool
-onSide second e = cond second (eqb (e / 2 % 2) 1) (eqb (e % 2) 1)
+abbrev pub on_side : Bool → ℕ → Bool
+on_side second e = cond second (eqb (e / 2 % 2) 1) (eqb (e % 2) 1)
 
-abbrev pub codeAction : List ℕ → List ℕ → ℕ → ℕ
-codeAction first second e = actionIn (table_of first second e) (row_of e)
+abbrev pub code_action : List ℕ → List ℕ → ℕ → ℕ
+code_action first second e = action_in (table_of first second e) (row_of e)
 
 -- Entries: the codes of rows of two policies, the first `count` of a list, of which the fields from `field` on count.
 pub record Sides : Type 0 where
@@ -52,17 +52,17 @@ abbrev pub sides : List ℕ → List ℕ → List ℕ → ℕ → ℕ → Sides
 sides first second codes count field = record { first = first; second = second; codes = codes; count = count; field = field }
 
 -- The entry k is on a side; the word of its action; it holds the values.
-unfoldable pub onAt : List ℕ → ℕ → Bool → ℕ → Bool
-onAt es n s k = cond (ltb k n) (onSide s (get_or es k 0)) true
+unfoldable pub on_at : List ℕ → ℕ → Bool → ℕ → Bool
+on_at es n s k = cond (ltb k n) (on_side s (get_or es k 0)) true
 
-unfoldable pub actionAt : Sides → ℕ → ℕ
-actionAt E k = cond (ltb k E.count) (codeAction E.first E.second (get_or E.codes k 0)) 0
+unfoldable pub action_at : Sides → ℕ → ℕ
+action_at E k = cond (ltb k E.count) (code_action E.first E.second (get_or E.codes k 0)) 0
 
-unfoldable pub holdsAt : Sides → List ℕ → ℕ → Bool
-holdsAt E us k = cond (ltb k E.count) (codeHolds E.first E.second E.field (get_or E.codes k 0) us) true
+unfoldable pub holds_at : Sides → List ℕ → ℕ → Bool
+holds_at E us k = cond (ltb k E.count) (code_holds E.first E.second E.field (get_or E.codes k 0) us) true
 
 abbrev pub on : Sides → Bool → ℕ → Bool
-on E s k = onAt E.codes E.count s k
+on E s k = on_at E.codes E.count s k
 
 -- The place of the first entry, of n from i on, for which the test is true; i + n where there is none.
 unfoldable pub first_of : (ℕ → Bool) → ℕ → ℕ → ℕ
@@ -72,29 +72,29 @@ first_of p i (suc n) = cond (p i) i (first_of p (suc i) n)
 -- No entry of the side s before d, and none of the other side before k, holds the values.
 unfoldable pub Unseen : Sides → Bool → ℕ → ℕ → List ℕ → Type 0
 Unseen E s d k us =
-    ((j : ℕ) → j < d → on E s j ≡ true → holdsAt E us j ≡ false) × ((j : ℕ) → j < k → on E (not s) j ≡ true → holdsAt E us j ≡ false)
+    ((j : ℕ) → j < d → on E s j ≡ true → holds_at E us j ≡ false) × ((j : ℕ) → j < k → on E (not s) j ≡ true → holds_at E us j ≡ false)
 
 -- At these values d is the first on its side s, k is the first on the other, and they act differently.
 pub record Clash (E : Sides) (s : Bool) (d k : ℕ) (us : List ℕ) : Type 0 where
   pub unseen : Unseen E s d k us
-  pub own : holdsAt E us d ≡ true
-  pub on-other : on E (not s) k ≡ true
-  pub other : holdsAt E us k ≡ true
-  pub acts : actionAt E k ≢ actionAt E d
+  pub own : holds_at E us d ≡ true
+  pub on_other : on E (not s) k ≡ true
+  pub other : holds_at E us k ≡ true
+  pub acts : action_at E k ≢ action_at E d
 
 -- None of the box's values is held by the entry, all are; and what both hold is in another box.
 unfoldable pub EntryApart : Sides → ℕ → List ℕ → Type 0
-EntryApart E k bs = (us : List ℕ) → InBox E.field bs us → holdsAt E us k ≡ false
+EntryApart E k bs = (us : List ℕ) → InBox E.field bs us → holds_at E us k ≡ false
 
 unfoldable pub EntryCovers : Sides → ℕ → List ℕ → Type 0
-EntryCovers E k bs = (us : List ℕ) → InBox E.field bs us → holdsAt E us k ≡ true
+EntryCovers E k bs = (us : List ℕ) → InBox E.field bs us → holds_at E us k ≡ true
 
 unfoldable pub EntryCommon : Sides → ℕ → List ℕ → List ℕ → Type 0
-EntryCommon E k bs bs' = (us : List ℕ) → InBox E.field bs us → holdsAt E us k ≡ true → InBox E.field bs' us
+EntryCommon E k bs bs' = (us : List ℕ) → InBox E.field bs us → holds_at E us k ≡ true → InBox E.field bs' us
 
 -- The entry j, of this code, is on the other side, or before d on its own.
 unfoldable pub Earlier : Bool → ℕ → ℕ → ℕ → Type 0
-Earlier s d e j = (onSide (not s) e ≡ true) ⊎ ((j < d) × (onSide s e ≡ true))
+Earlier s d e j = (on_side (not s) e ≡ true) ⊎ ((j < d) × (on_side s e ≡ true))
 
 -- Each of the first n numbers of a list is the code of an entry before k that is on the other side, or before d on its own.
 pub record Listed (es : List ℕ) (s : Bool) (d k e : ℕ) : Type 0 where
@@ -129,47 +129,47 @@ unfoldable pub SameSides : Sides → ℕ → List ℕ → Type 0
 SameSides E d bs = (s : Bool) → on E s d ≡ true → on E (not s) d ≡ false → Harmless E s d bs
 
 -- The action of the first entry on a side that holds the values; and the two sides have the same one throughout the box.
-abbrev pub sideAction : Sides → Bool → List ℕ → ℕ
-sideAction E s us = actionAt E (first_of (λ k. cond (on E s k) (holdsAt E us k) false) 0 E.count)
+abbrev pub side_action : Sides → Bool → List ℕ → ℕ
+side_action E s us = action_at E (first_of (λ k. cond (on E s k) (holds_at E us k) false) 0 E.count)
 
 unfoldable pub Agreed : Sides → List ℕ → Type 0
-Agreed E bs = (us : List ℕ) → InBox E.field bs us → sideAction E false us ≡ sideAction E true us
+Agreed E bs = (us : List ℕ) → InBox E.field bs us → side_action E false us ≡ side_action E true us
 
 -- The first n places of a list are those of rows of a policy.
 pub record There (ws list : List ℕ) (n : ℕ) : Type 0 where
-  pub sized : length list ≡ rowLimit
-  pub fits : n ≤ rowLimit
-  pub places : (k : ℕ) → k < n → get_or list k 0 < length ws / rowWords
+  pub sized : length list ≡ row_limit
+  pub fits : n ≤ row_limit
+  pub places : (k : ℕ) → k < n → get_or list k 0 < length ws / row_words
 
 -- The sides of a row at a cut, as a number.
-abbrev pub sidesOf : Range → ℕ → ℕ → ℕ
-sidesOf r one other = cond (contains r one) (cond (contains r other) 3 1) (cond (contains r other) 2 0)
+abbrev pub sides_of : Range → ℕ → ℕ → ℕ
+sides_of r one other = cond (contains r one) (cond (contains r other) 3 1) (cond (contains r other) 2 0)
 
 -- The rows of the entries on a side, of n entries from i on.
-unfoldable pub sideRows : List ℕ → List ℕ → ℕ → Bool → List ℕ → ℕ → ℕ → List (Row ℕ)
-sideRows first second f s es i zero = []
-sideRows first second f s es i (suc n) =
-    cond (onSide s (get_or es i 0))
-    (rowBehind (table_of first second (get_or es i 0)) f (row_of (get_or es i 0)) ∷ sideRows first second f s es (suc i) n)
-    (sideRows first second f s es (suc i) n)
+unfoldable pub side_rows : List ℕ → List ℕ → ℕ → Bool → List ℕ → ℕ → ℕ → List (Row ℕ)
+side_rows first second f s es i zero = []
+side_rows first second f s es i (suc n) =
+    cond (on_side s (get_or es i 0))
+    (row_behind (table_of first second (get_or es i 0)) f (row_of (get_or es i 0)) ∷ side_rows first second f s es (suc i) n)
+    (side_rows first second f s es (suc i) n)
 
 -- The rows of the first n entries are, on each side, those of a list.
 pub record SideRows (first second xs ys es : List ℕ) (n : ℕ) : Type 0 where
-  pub fits : n ≤ 2 * rowLimit
-  pub on-first : (f : ℕ) → sideRows first second f false es 0 n ≡ map (rowBehind first f) xs
-  pub on-second : (f : ℕ) → sideRows first second f true es 0 n ≡ map (rowBehind second f) ys
+  pub fits : n ≤ 2 * row_limit
+  pub on_first : (f : ℕ) → side_rows first second f false es 0 n ≡ map (row_behind first f) xs
+  pub on_second : (f : ℕ) → side_rows first second f true es 0 n ≡ map (row_behind second f) ys
 
 -- Whose row may be the next entry: 1 the first's, 2 the second's, 3 both's where they are the same.
 pub record Next (first xs : List ℕ) (n i : ℕ) (second ys : List ℕ) (m j r : ℕ) : Type 0 where
   pub known : (r ≡ 1) ⊎ ((r ≡ 2) ⊎ (r ≡ 3))
   pub of-first : r ≢ 2 → i < n
   pub of-second : r ≢ 1 → j < m
-  pub same : r ≡ 3 → (f : ℕ) → rowBehind first f (get_or xs i 0) ≡ rowBehind second f (get_or ys j 0)
+  pub same : r ≡ 3 → (f : ℕ) → row_behind first f (get_or xs i 0) ≡ row_behind second f (get_or ys j 0)
 
 -- The first n numbers of a list are, in order, those that a test takes from other numbers.
 pub record Takes (test : ℕ → Bool) (among list : List ℕ) (n : ℕ) : Type 0 where
-  pub sized : length list ≡ rowLimit
-  pub fits : n ≤ rowLimit
+  pub sized : length list ≡ row_limit
+  pub fits : n ≤ row_limit
   pub rows : take n list ≡ those test among
 
 -- A number is one of the first n of a list; or one of the list.
@@ -184,8 +184,8 @@ OneOf xs x = Early xs (length xs) x
 -- The first n numbers of a list are some of the places xs, and enough of them: two values of the field f that all of these rows treat alike get
 -- the same action from the rows at xs, whatever the fields behind hold.
 pub record Cutting (ws xs : List ℕ) (f : ℕ) (cuts : List ℕ) (n : ℕ) : Type 0 where
-  pub sized : length cuts ≡ rowLimit
-  pub fits : n ≤ rowLimit
+  pub sized : length cuts ≡ row_limit
+  pub fits : n ≤ row_limit
   pub among : (k : ℕ) → k < n → OneOf xs (get_or cuts k 0)
   pub alike : (u v : ℕ) → ((k : ℕ) → k < n → contains (range_of ws (get_or cuts k 0) f) u ≡ contains (range_of ws (get_or cuts k 0) f) v) → (us : List ℕ)
-      → find 0 (map (rowBehind ws f) xs) (u ∷ us) ≡ find 0 (map (rowBehind ws f) xs) (v ∷ us)
+      → find 0 (map (row_behind ws f) xs) (u ∷ us) ≡ find 0 (map (row_behind ws f) xs) (v ∷ us)

@@ -8,80 +8,80 @@ use Rattle.std.proofs.Math.Bool.{true, false, false≢true}
 use Rattle.std.proofs.Math.Logic.{inl, inr}
 use Rattle.std.proofs.Math.Seq.{get_or-set_same}
 use Rattle.std.proofs.lemmas.Bool.{eqb-false}
-use Rattle.cover.specs.Boxes.{rangesWord, InBox, row_of, table_of, codeHolds, Common, Apart, Covers, Covered}
-use Rattle.agree.specs.Sides.{onSide, codeAction, Sides, sides, onAt, actionAt, holdsAt, on, first_of, Unseen, EntryApart, EntryCovers, EntryCommon, Earlier, Listed, Before, Hidden, Passed, Ended, Peace, Harmless, SameSides, Agreed}
+use Rattle.cover.specs.Boxes.{ranges_word, InBox, row_of, table_of, code_holds, Common, Apart, Covers, Covered}
+use Rattle.agree.specs.Sides.{on_side, code_action, Sides, sides, on_at, action_at, holds_at, on, first_of, Unseen, EntryApart, EntryCovers, EntryCommon, Earlier, Listed, Before, Hidden, Passed, Ended, Peace, Harmless, SameSides, Agreed}
 
 -- The side, the action and the ranges of an entry are those of its code; the end row is on both sides, discards and holds everything.
 module _ (es : List ℕ) (n : ℕ) (s : Bool) (k : ℕ) where
-  pub on-entry : k < n → onAt es n s k ≡ onSide s (get_or es k 0)
-  unfolding onAt
+  pub on-entry : k < n → on_at es n s k ≡ on_side s (get_or es k 0)
+  unfolding on_at
   on-entry h = rw (lt-ltb k n h)
 
-  pub on-end : n ≤ k → onAt es n s k ≡ true
-  unfolding onAt
-  on-end h = rw (le-ltb k n h)
+  pub on_end : n ≤ k → on_at es n s k ≡ true
+  unfolding on_at
+  on_end h = rw (le-ltb k n h)
 
 module _ (E : Sides) (k : ℕ) where
-  pub action-entry : k < E.count → actionAt E k ≡ codeAction E.first E.second (get_or E.codes k 0)
-  unfolding actionAt
-  action-entry h = rw (lt-ltb k E.count h)
+  pub action_entry : k < E.count → action_at E k ≡ code_action E.first E.second (get_or E.codes k 0)
+  unfolding action_at
+  action_entry h = rw (lt-ltb k E.count h)
 
-  pub action-end : E.count ≤ k → actionAt E k ≡ 0
-  unfolding actionAt
-  action-end h = rw (le-ltb k E.count h)
+  pub action_end : E.count ≤ k → action_at E k ≡ 0
+  unfolding action_at
+  action_end h = rw (le-ltb k E.count h)
 
-  holds-entry : (us : List ℕ) → k < E.count → holdsAt E us k ≡ codeHolds E.first E.second E.field (get_or E.codes k 0) us
-  unfolding holdsAt
-  holds-entry us h = rw (lt-ltb k E.count h)
+  holds_entry : (us : List ℕ) → k < E.count → holds_at E us k ≡ code_holds E.first E.second E.field (get_or E.codes k 0) us
+  unfolding holds_at
+  holds_entry us h = rw (lt-ltb k E.count h)
 
-  holds-end : (us : List ℕ) → E.count ≤ k → holdsAt E us k ≡ true
-  unfolding holdsAt
-  holds-end us h = rw (le-ltb k E.count h)
+  holds_end : (us : List ℕ) → E.count ≤ k → holds_at E us k ≡ true
+  unfolding holds_at
+  holds_end us h = rw (le-ltb k E.count h)
 
 -- Whether two actions are the same does not depend on the field.
-pub action-same : (first second es : List ℕ) (n f k d x a : ℕ) → x ≡ actionAt (sides first second es n 0) k → x ≡ a → a ≡ actionAt (sides first second es n 0) d
-    → actionAt (sides first second es n f) k ≡ actionAt (sides first second es n f) d
-unfolding actionAt
-action-same first second es n f k d x a p q r = sym p ∙ q ∙ r
+pub action_same : (first second es : List ℕ) (n f k d x a : ℕ) → x ≡ action_at (sides first second es n 0) k → x ≡ a → a ≡ action_at (sides first second es n 0) d
+    → action_at (sides first second es n f) k ≡ action_at (sides first second es n f) d
+unfolding action_at
+action_same first second es n f k d x a p q r = sym p ∙ q ∙ r
 
 -- How an entry stands to a box is how the row of its code does.
 module _ (E : Sides) (k : ℕ) (bs : List ℕ) where
   abbrev code : ℕ
   code = get_or E.codes k 0
 
-  pub apart-entry : k < E.count → Apart (table_of E.first E.second code) (rangesWord (row_of code)) E.field bs → EntryApart E k bs
+  pub apart_entry : k < E.count → Apart (table_of E.first E.second code) (ranges_word (row_of code)) E.field bs → EntryApart E k bs
   unfolding Apart EntryApart
-  apart-entry h t us i = holds-entry E k us h ∙ t us i
+  apart_entry h t us i = holds_entry E k us h ∙ t us i
 
-  pub covers-entry : k < E.count → Covers (table_of E.first E.second code) (rangesWord (row_of code)) E.field bs → EntryCovers E k bs
+  pub covers_entry : k < E.count → Covers (table_of E.first E.second code) (ranges_word (row_of code)) E.field bs → EntryCovers E k bs
   unfolding Covers EntryCovers
-  covers-entry h t us i = holds-entry E k us h ∙ t us i
+  covers_entry h t us i = holds_entry E k us h ∙ t us i
 
-  pub covers-end : E.count ≤ k → EntryCovers E k bs
+  pub covers_end : E.count ≤ k → EntryCovers E k bs
   unfolding EntryCovers
-  covers-end h us i = holds-end E k us h
+  covers_end h us i = holds_end E k us h
 
-  pub common-entry : (bs' : List ℕ) → k < E.count → Common (table_of E.first E.second code) (rangesWord (row_of code)) E.field bs bs' → EntryCommon E k bs bs'
+  pub common_entry : (bs' : List ℕ) → k < E.count → Common (table_of E.first E.second code) (ranges_word (row_of code)) E.field bs bs' → EntryCommon E k bs bs'
   unfolding Common EntryCommon
-  common-entry bs' h t us i e = t us i (sym (holds-entry E k us h) ∙ e)
+  common_entry bs' h t us i e = t us i (sym (holds_entry E k us h) ∙ e)
 
-  pub common-all : EntryCommon E k bs bs
+  pub common_all : EntryCommon E k bs bs
   unfolding EntryCommon
-  common-all us i e = i
+  common_all us i e = i
 
 -- Codes are listed in their order: none, one more, or one that is passed over.
 module _ (es : List ℕ) (s : Bool) (d : ℕ) (list : List ℕ) where
-  listed-later : (k j e : ℕ) → k ≤ j → Listed es s d k e → Listed es s d j e
-  listed-later k j e h l = record { place = l.place; below = omega (arith, l.below); code = l.code; earlier = l.earlier }
+  listed_later : (k j e : ℕ) → k ≤ j → Listed es s d k e → Listed es s d j e
+  listed_later k j e h l = record { place = l.place; below = omega (arith, l.below); code = l.code; earlier = l.earlier }
 
-  pub before-none : Before es s d 0 list 0
+  pub before_none : Before es s d 0 list 0
   unfolding Before
-  before-none i h = absurd (omega arith)
+  before_none i h = absurd (omega arith)
 
   module _ (j n : ℕ) (t : Before es s d j list n) where
-    before-passed : (e : ℕ) → Before es s d (j + 1) (set list n e) n
+    before_passed : (e : ℕ) → Before es s d (j + 1) (set list n e) n
     unfolding Before
-    before-passed e i h = rw (get_or-set_other list n i e 0 (λ q. omega arith)) (listed-later j (j + 1) _ (omega arith) (t i h))
+    before_passed e i h = rw (get_or-set_other list n i e 0 (λ q. omega arith)) (listed_later j (j + 1) _ (omega arith) (t i h))
 
     before_more : n < length list → Earlier s d (get_or es j 0) j → Before es s d (j + 1) (set list n (get_or es j 0)) (n + 1)
     unfolding Before
@@ -89,87 +89,87 @@ module _ (es : List ℕ) (s : Bool) (d : ℕ) (list : List ℕ) where
       where
         by : Dec (i ≡ n) → Listed es s d (j + 1) (get_or (set list n (get_or es j 0)) i 0)
         by (yes m) = rw (m, get_or-set_same list n (get_or es j 0) 0 q) record { place = j; below = omega arith; code = refl; earlier = r }
-        by (no m) = rw (get_or-set_other list n i (get_or es j 0) 0 m) (listed-later j (j + 1) _ (omega arith) (t i (omega (arith, m))))
+        by (no m) = rw (get_or-set_other list n i (get_or es j 0) 0 m) (listed_later j (j + 1) _ (omega arith) (t i (omega (arith, m))))
 
     pub before-next : n < length list → (n' : ℕ) → (Earlier s d (get_or es j 0) j × (n' ≡ n + 1)) ⊎ (n' ≡ n) → Before es s d (j + 1) (set list n (get_or es j 0)) n'
-    before-next q n' o = ⊎_elim (λ w. rw w.1 (before_more q w.0)) (λ w. rw w (before-passed (get_or es j 0))) o
+    before-next q n' o = ⊎_elim (λ w. rw w.1 (before_more q w.0)) (λ w. rw w (before_passed (get_or es j 0))) o
 
 -- A code that comes before on its own side, or is on the other.
 module _ (s : Bool) (d e j : ℕ) where
-  pub earlier-other : onSide (not s) e ≡ true → Earlier s d e j
+  pub earlier_other : on_side (not s) e ≡ true → Earlier s d e j
   unfolding Earlier
-  earlier-other h = inl h
+  earlier_other h = inl h
 
-  pub earlier-own : j < d → onSide s e ≡ true → Earlier s d e j
+  pub earlier_own : j < d → on_side s e ≡ true → Earlier s d e j
   unfolding Earlier
-  earlier-own h q = inr (h, q)
+  earlier_own h q = inr (h, q)
 
 -- What may come before an entry and another in a box, and what the two are to each other there.
 module _ (E : Sides) (s : Bool) (d : ℕ) (bs : List ℕ) where
-  pub listed-hide : (k : ℕ) (list : List ℕ) (n : ℕ) → k ≤ E.count → Before E.codes s d k list n → Covered E.first E.second list n E.field bs → Hidden E s d k bs
+  pub listed_hide : (k : ℕ) (list : List ℕ) (n : ℕ) → k ≤ E.count → Before E.codes s d k list n → Covered E.first E.second list n E.field bs → Hidden E s d k bs
   unfolding Before Covered Hidden Unseen Earlier
-  listed-hide k list n g b t us i u = t us i (λ m h. miss (get_or list m 0) (b m h))
+  listed_hide k list n g b t us i u = t us i (λ m h. miss (get_or list m 0) (b m h))
     where
-      missed : (e : ℕ) (l : Listed E.codes s d k e) → holdsAt E us l.place ≡ false → codeHolds E.first E.second E.field e us ≡ false
-      missed e l h = rw l.code (sym (holds-entry E l.place us (omega (arith, l.below))) ∙ h)
+      missed : (e : ℕ) (l : Listed E.codes s d k e) → holds_at E us l.place ≡ false → code_holds E.first E.second E.field e us ≡ false
+      missed e l h = rw l.code (sym (holds_entry E l.place us (omega (arith, l.below))) ∙ h)
 
-      side : (e : ℕ) (l : Listed E.codes s d k e) (r : Bool) → onSide r e ≡ true → on E r l.place ≡ true
+      side : (e : ℕ) (l : Listed E.codes s d k e) (r : Bool) → on_side r e ≡ true → on E r l.place ≡ true
       side e l r h = on-entry E.codes E.count r l.place (omega (arith, l.below)) ∙ (rw l.code at h)
 
-      miss : (e : ℕ) → Listed E.codes s d k e → codeHolds E.first E.second E.field e us ≡ false
+      miss : (e : ℕ) → Listed E.codes s d k e → code_holds E.first E.second E.field e us ≡ false
       miss e l =
           ⊎_elim (λ w. missed e l (u.1 l.place l.below (side e l (not s) w))) (λ w. missed e l (u.0 l.place w.0 (side e l s w.1))) l.earlier
 
   module _ (k : ℕ) where
-    pub passed-off : on E (not s) k ≡ false → Passed E s d k bs
+    pub passed_off : on E (not s) k ≡ false → Passed E s d k bs
     unfolding Passed
-    passed-off h us i c = false≢true (sym h ∙ c.on-other)
+    passed_off h us i c = false≢true (sym h ∙ c.on_other)
 
-    pub passed-same : actionAt E k ≡ actionAt E d → Passed E s d k bs
+    pub passed_same : action_at E k ≡ action_at E d → Passed E s d k bs
     unfolding Passed
-    passed-same h us i c = c.acts h
+    passed_same h us i c = c.acts h
 
     pub passed_apart : EntryApart E k bs → Passed E s d k bs
     unfolding Passed EntryApart
     passed_apart h us i c = false≢true (sym (h us i) ∙ c.other)
 
-    pub passed-hidden : (shared : List ℕ) → EntryCommon E k bs shared → Hidden E s d k shared → Passed E s d k bs
+    pub passed_hidden : (shared : List ℕ) → EntryCommon E k bs shared → Hidden E s d k shared → Passed E s d k bs
     unfolding Passed EntryCommon Hidden
-    passed-hidden shared t h us i c = h us (t us i c.other) c.unseen
+    passed_hidden shared t h us i c = h us (t us i c.other) c.unseen
 
     passed-behind : (j : ℕ) → k < j → on E (not s) k ≡ true → EntryCovers E k bs → Passed E s d j bs
     unfolding Passed EntryCovers Unseen
     passed-behind j h o t us i c = false≢true (sym (c.unseen.1 k h o) ∙ t us i)
 
-    pub ended : on E (not s) k ≡ true → EntryCovers E k bs → actionAt E k ≡ actionAt E d → Ended E s d k bs
+    pub ended : on E (not s) k ≡ true → EntryCovers E k bs → action_at E k ≡ action_at E d → Ended E s d k bs
     unfolding Ended
     ended o t a j h = by (ℕ_discrete j k)
       where
         by : Dec (j ≡ k) → Passed E s d j bs
-        by (yes m) = rw m (passed-same a)
+        by (yes m) = rw m (passed_same a)
         by (no m) = passed-behind j (omega (arith, m)) o t
 
     pub peace-behind : (to : ℕ) → on E (not s) k ≡ true → EntryCovers E k bs → Peace E s d (suc k) to bs
     unfolding Peace
     peace-behind to o t j l h c = passed-behind j (omega arith) o t
 
-    pub peace-none : Peace E s d k k bs
+    pub peace_none : Peace E s d k k bs
     unfolding Peace
-    peace-none j l h c = absurd (omega arith)
+    peace_none j l h c = absurd (omega arith)
 
   -- Peace up to an entry, at it, and behind it.
   module _ (from k : ℕ) (p : Peace E s d from k bs) where
-    pub peace-more : Passed E s d k bs → Peace E s d from (k + 1) bs
+    pub peace_more : Passed E s d k bs → Peace E s d from (k + 1) bs
     unfolding Peace
-    peace-more q j l h c = by (ℕ_discrete j k)
+    peace_more q j l h c = by (ℕ_discrete j k)
       where
         by : Dec (j ≡ k) → Passed E s d j bs
         by (yes m) = rw m q
         by (no m) = p j l (omega (arith, m)) c
 
-    pub peace-ended : (to : ℕ) → Ended E s d k bs → Peace E s d from to bs
+    pub peace_ended : (to : ℕ) → Ended E s d k bs → Peace E s d from to bs
     unfolding Peace Ended
-    peace-ended to q j l h c = by (dec_lt j k)
+    peace_ended to q j l h c = by (dec_lt j k)
       where
         by : Dec (j < k) → Passed E s d j bs
         by (yes m) = p j l m c
@@ -184,56 +184,56 @@ module _ (E : Sides) (s : Bool) (d : ℕ) (bs : List ℕ) where
         by (no m) (yes n) = p j l n c
         by (no m) (no n) = r j (omega (arith, m)) h c
 
-    pub peace-then : (to : ℕ) → Peace E s d k to bs → Peace E s d from to bs
+    pub peace_then : (to : ℕ) → Peace E s d k to bs → Peace E s d from to bs
     unfolding Peace
-    peace-then to r j l h c = by (dec_lt j k)
+    peace_then to r j l h c = by (dec_lt j k)
       where
         by : Dec (j < k) → Passed E s d j bs
         by (yes m) = p j l m c
         by (no m) = r j (omega arith) h c
 
-    pub peace-end : E.count < k → Peace E s d from (suc E.count) bs
+    pub peace_end : E.count < k → Peace E s d from (suc E.count) bs
     unfolding Peace
-    peace-end h j l g c = p j l (omega arith) c
+    peace_end h j l g c = p j l (omega arith) c
 
   -- An entry that is hidden is harmless; and what is so in the box that it shares with another is so in that.
-  pub hidden-peace : Hidden E s d d bs → (to : ℕ) → Peace E s d d to bs
+  pub hidden_peace : Hidden E s d d bs → (to : ℕ) → Peace E s d d to bs
   unfolding Hidden Peace Passed Unseen
-  hidden-peace h to k l g c us i w = h us i (w.unseen.0, λ j m. w.unseen.1 j (omega arith))
+  hidden_peace h to k l g c us i w = h us i (w.unseen.0, λ j m. w.unseen.1 j (omega arith))
 
-  pub harmless-own : (own : List ℕ) → EntryCommon E d bs own → (from to : ℕ) → from ≤ suc d → Peace E s d from to own → Peace E s d (suc d) to bs
+  pub harmless_own : (own : List ℕ) → EntryCommon E d bs own → (from to : ℕ) → from ≤ suc d → Peace E s d from to own → Peace E s d (suc d) to bs
   unfolding Peace Passed EntryCommon
-  harmless-own own t from to h p k l g c us i w = p k (omega arith) g c us (t us i w.own) w
+  harmless_own own t from to h p k l g c us i w = p k (omega arith) g c us (t us i w.own) w
 
 -- The side of a code that is on one side only.
 module _ (e : ℕ) where
-  pub lone-first : e % 4 ≡ 1 → (s : Bool) → onSide s e ≡ true → onSide (not s) e ≡ false → ◌≡◌ {A = ℕ} 1 (cond s 2 1)
-  lone-first h true p q = absurd (omega (arith, eqb-true (e / 2 % 2) 1 p))
-  lone-first h false p q = refl
+  pub lone_first : e % 4 ≡ 1 → (s : Bool) → on_side s e ≡ true → on_side (not s) e ≡ false → ◌≡◌ {A = ℕ} 1 (cond s 2 1)
+  lone_first h true p q = absurd (omega (arith, eqb-true (e / 2 % 2) 1 p))
+  lone_first h false p q = refl
 
-  pub lone-second : e % 4 ≡ 2 → (s : Bool) → onSide s e ≡ true → onSide (not s) e ≡ false → ◌≡◌ {A = ℕ} 2 (cond s 2 1)
-  lone-second h true p q = refl
-  lone-second h false p q = absurd (omega (arith, eqb-true (e % 2) 1 p))
+  pub lone_second : e % 4 ≡ 2 → (s : Bool) → on_side s e ≡ true → on_side (not s) e ≡ false → ◌≡◌ {A = ℕ} 2 (cond s 2 1)
+  lone_second h true p q = refl
+  lone_second h false p q = absurd (omega (arith, eqb-true (e % 2) 1 p))
 
-  pub lone-none : e % 4 ≢ 1 → e % 4 ≢ 2 → (s : Bool) → onSide s e ≡ true → onSide (not s) e ≡ false → ◌≡◌ {A = ℕ} 0 (cond s 2 1)
-  lone-none h g true p q = absurd (omega (arith, h, g, eqb-true (e / 2 % 2) 1 p, eqb-false (e % 2) 1 q, div-div-eq-div-mul e 2 2))
-  lone-none h g false p q = absurd (omega (arith, h, g, eqb-true (e % 2) 1 p, eqb-false (e / 2 % 2) 1 q, div-div-eq-div-mul e 2 2))
+  pub lone_none : e % 4 ≢ 1 → e % 4 ≢ 2 → (s : Bool) → on_side s e ≡ true → on_side (not s) e ≡ false → ◌≡◌ {A = ℕ} 0 (cond s 2 1)
+  lone_none h g true p q = absurd (omega (arith, h, g, eqb-true (e / 2 % 2) 1 p, eqb-false (e % 2) 1 q, div-div-eq-div-mul e 2 2))
+  lone_none h g false p q = absurd (omega (arith, h, g, eqb-true (e % 2) 1 p, eqb-false (e / 2 % 2) 1 q, div-div-eq-div-mul e 2 2))
 
 -- An entry is on one side only: the one that is named, or none.
 module _ (E : Sides) (d : ℕ) (bs : List ℕ) (h : d < E.count) (r : ℕ)
-    (t : (s : Bool) → onSide s (get_or E.codes d 0) ≡ true → onSide (not s) (get_or E.codes d 0) ≡ false → r ≡ cond s 2 1) where
-  lone-side : (s : Bool) → on E s d ≡ true → on E (not s) d ≡ false → r ≡ cond s 2 1
-  lone-side s p q = t s (sym (on-entry E.codes E.count s d h) ∙ p) (sym (on-entry E.codes E.count (not s) d h) ∙ q)
+    (t : (s : Bool) → on_side s (get_or E.codes d 0) ≡ true → on_side (not s) (get_or E.codes d 0) ≡ false → r ≡ cond s 2 1) where
+  lone_side : (s : Bool) → on E s d ≡ true → on E (not s) d ≡ false → r ≡ cond s 2 1
+  lone_side s p q = t s (sym (on-entry E.codes E.count s d h) ∙ p) (sym (on-entry E.codes E.count (not s) d h) ∙ q)
 
   pub same_none : r ≡ 0 → SameSides E d bs
   unfolding SameSides
-  same_none z true p q = absurd (omega (arith, lone-side true p q))
-  same_none z false p q = absurd (omega (arith, lone-side false p q))
+  same_none z true p q = absurd (omega (arith, lone_side true p q))
+  same_none z false p q = absurd (omega (arith, lone_side false p q))
 
-  pub same-lone : Harmless E (eqb r 2) d bs → SameSides E d bs
+  pub same_lone : Harmless E (eqb r 2) d bs → SameSides E d bs
   unfolding SameSides
-  same-lone g true p q = rw (lone-side true p q) at g
-  same-lone g false p q = rw (lone-side false p q) at g
+  same_lone g true p q = rw (lone_side true p q) at g
+  same_lone g false p q = rw (lone_side false p q) at g
 
 -- The first place of n from i on at which a test is true.
 record First (p : ℕ → Bool) (i n k : ℕ) : Type 0 where
@@ -265,51 +265,51 @@ seen_false false b e h = absurd (false≢true h)
 
 module _ (E : Sides) (us : List ℕ) where
   abbrev sees : Bool → ℕ → Bool
-  sees s k = cond (on E s k) (holdsAt E us k) false
+  sees s k = cond (on E s k) (holds_at E us k) false
 
-  abbrev firstOn : Bool → ℕ
-  firstOn s = first_of (sees s) 0 E.count
+  abbrev first_on : Bool → ℕ
+  first_on s = first_of (sees s) 0 E.count
 
-  first-within : (s : Bool) → firstOn s ≤ E.count
-  first-within s = omega (arith, (first-of (sees s) 0 E.count).within)
+  first_within : (s : Bool) → first_on s ≤ E.count
+  first_within s = omega (arith, (first-of (sees s) 0 E.count).within)
 
-  none_before : (s : Bool) (j : ℕ) → j < firstOn s → on E s j ≡ true → holdsAt E us j ≡ false
-  none_before s j h o = seen_false (on E s j) (holdsAt E us j) ((first-of (sees s) 0 E.count).none j (omega arith) h) o
+  none_before : (s : Bool) (j : ℕ) → j < first_on s → on E s j ≡ true → holds_at E us j ≡ false
+  none_before s j h o = seen_false (on E s j) (holds_at E us j) ((first-of (sees s) 0 E.count).none j (omega arith) h) o
 
-  first-seen : (s : Bool) → (on E s (firstOn s) ≡ true) × (holdsAt E us (firstOn s) ≡ true)
-  first-seen s = by (dec_lt (firstOn s) E.count)
+  first_seen : (s : Bool) → (on E s (first_on s) ≡ true) × (holds_at E us (first_on s) ≡ true)
+  first_seen s = by (dec_lt (first_on s) E.count)
     where
-      by : Dec (firstOn s < E.count) → (on E s (firstOn s) ≡ true) × (holdsAt E us (firstOn s) ≡ true)
-      by (yes h) = seen_true (on E s (firstOn s)) (holdsAt E us (firstOn s)) ((first-of (sees s) 0 E.count).found (omega arith))
-      by (no h) = (on-end E.codes E.count s (firstOn s) (omega arith), holds-end E (firstOn s) us (omega arith))
+      by : Dec (first_on s < E.count) → (on E s (first_on s) ≡ true) × (holds_at E us (first_on s) ≡ true)
+      by (yes h) = seen_true (on E s (first_on s)) (holds_at E us (first_on s)) ((first-of (sees s) 0 E.count).found (omega arith))
+      by (no h) = (on_end E.codes E.count s (first_on s) (omega arith), holds_end E (first_on s) us (omega arith))
 
   module _ (bs : List ℕ) (i : InBox E.field bs us) (t : (d : ℕ) → d < E.count → SameSides E d bs) where
     -- The first of one side is before that of the other: then it is not on the other side, and does not clash.
-    one-before : (s : Bool) → firstOn s < firstOn (not s) → actionAt E (firstOn (not s)) ≡ actionAt E (firstOn s)
+    one-before : (s : Bool) → first_on s < first_on (not s) → action_at E (first_on (not s)) ≡ action_at E (first_on s)
     unfolding SameSides Peace Passed Unseen
-    one-before s h = by (ℕ_discrete (actionAt E (firstOn (not s))) (actionAt E (firstOn s))) (on E (not s) (firstOn s)) refl
+    one-before s h = by (ℕ_discrete (action_at E (first_on (not s))) (action_at E (first_on s))) (on E (not s) (first_on s)) refl
       where
-        by : Dec (actionAt E (firstOn (not s)) ≡ actionAt E (firstOn s)) → (b : Bool) → on E (not s) (firstOn s) ≡ b
-            → actionAt E (firstOn (not s)) ≡ actionAt E (firstOn s)
+        by : Dec (action_at E (first_on (not s)) ≡ action_at E (first_on s)) → (b : Bool) → on E (not s) (first_on s) ≡ b
+            → action_at E (first_on (not s)) ≡ action_at E (first_on s)
         by (yes m) b e = m
-        by (no m) true e = absurd (false≢true (sym (none_before (not s) (firstOn s) h e) ∙ (first-seen s).1))
+        by (no m) true e = absurd (false≢true (sym (none_before (not s) (first_on s) h e) ∙ (first_seen s).1))
         by (no m) false e =
-            absurd (t (firstOn s) (omega (arith, first-within (not s))) s (first-seen s).0 e (firstOn (not s)) (omega arith) (omega (arith, first-within (not s))) (first-within (not s)) us i record {
+            absurd (t (first_on s) (omega (arith, first_within (not s))) s (first_seen s).0 e (first_on (not s)) (omega arith) (omega (arith, first_within (not s))) (first_within (not s)) us i record {
               unseen = (none_before s, none_before (not s));
-              own = (first-seen s).1;
-              on-other = (first-seen (not s)).0;
-              other = (first-seen (not s)).1;
+              own = (first_seen s).1;
+              on_other = (first_seen (not s)).0;
+              other = (first_seen (not s)).1;
               acts = m;
             })
 
-    same-action : actionAt E (firstOn false) ≡ actionAt E (firstOn true)
-    same-action = by (dec_lt (firstOn false) (firstOn true)) (dec_lt (firstOn true) (firstOn false))
+    same_action : action_at E (first_on false) ≡ action_at E (first_on true)
+    same_action = by (dec_lt (first_on false) (first_on true)) (dec_lt (first_on true) (first_on false))
       where
-        by : Dec (firstOn false < firstOn true) → Dec (firstOn true < firstOn false) → actionAt E (firstOn false) ≡ actionAt E (firstOn true)
+        by : Dec (first_on false < first_on true) → Dec (first_on true < first_on false) → action_at E (first_on false) ≡ action_at E (first_on true)
         by (yes h) g = sym (one-before false h)
         by (no h) (yes g) = one-before true g
-        by (no h) (no g) = let e : firstOn false ≡ firstOn true = omega arith in rw e
+        by (no h) (no g) = let e : first_on false ≡ first_on true = omega arith in rw e
 
-pub sides-agree : (E : Sides) (bs : List ℕ) → ((d : ℕ) → d < E.count → SameSides E d bs) → Agreed E bs
+pub sides_agree : (E : Sides) (bs : List ℕ) → ((d : ℕ) → d < E.count → SameSides E d bs) → Agreed E bs
 unfolding Agreed
-sides-agree E bs t us i = same-action E us bs i t
+sides_agree E bs t us i = same_action E us bs i t

@@ -1,7 +1,7 @@
 // Whether the two sides of a list of entries give the same action throughout a box: each entry that is on one side only is asked about.
 ghost use Rattle.std.specs.Prelude.{◌≡◌, Bool, true, false, not, cond, suc, ◌*◌, ◌≤◌, ◌<◌, length};
-ghost use Rattle.policy.specs.Words.{rowLimit};
-ghost use Rattle.agree.specs.Sides.{onSide, sides, actionAt, Earlier, Before, Hidden, Passed, Ended, Peace, Harmless, Agreed};
+ghost use Rattle.policy.specs.Words.{row_limit};
+ghost use Rattle.agree.specs.Sides.{on_side, sides, action_at, Earlier, Before, Hidden, Passed, Ended, Peace, Harmless, Agreed};
 
 use crate::entries::{entry_action, entry_apart, entry_common, entry_covers, entry_on, on};
 use crate::{Asked, FIRST, SECOND};
@@ -42,8 +42,8 @@ fn before(
     bounds: &[u64; RANGES_WORDS],
     list: &mut [u32; MOST],
 ) -> usize
-    requires k_le_count { (k ≤ asked.count) × (asked.count ≤ 2 * rowLimit) }
-    requires list_len { length list.old ≡ 2 * rowLimit }
+    requires k_le_count { (k ≤ asked.count) × (asked.count ≤ 2 * row_limit) }
+    requires list_len { length list.old ≡ 2 * row_limit }
     ensures { Before entries.now asked.second asked.row k list.new result }
 {
     let field = asked.field;
@@ -72,7 +72,7 @@ fn hidden(
     bounds: Bounds,
     parts: usize,
 ) -> Known
-    requires { (k ≤ asked.count) × (asked.count ≤ 2 * rowLimit) }
+    requires { (k ≤ asked.count) × (asked.count ≤ 2 * row_limit) }
     ensures { (result.left ≤ parts) × (result.yes ≡ true → Hidden (sides first.now second.now entries.now asked.count asked.field) asked.second asked.row k bounds.words) }
 {
     let mut list = [0u32; MOST];
@@ -92,8 +92,8 @@ fn step(
     k: usize,
     bounds: &[u64; RANGES_WORDS],
 ) -> u64
-    requires count_bound { asked.count ≤ 2 * rowLimit }
-    requires action_value { action ≡ actionAt (sides first.now second.now entries.now asked.count 0) asked.row }
+    requires count_bound { asked.count ≤ 2 * row_limit }
+    requires action_value { action ≡ action_at (sides first.now second.now entries.now asked.count 0) asked.row }
     ensures upper_bound { result ≤ 2 }
     ensures passed { result ≡ 0 → Passed (sides first.now second.now entries.now asked.count asked.field) asked.second asked.row k bounds.now }
     ensures ended { result ≡ 2 → Ended (sides first.now second.now entries.now asked.count asked.field) asked.second asked.row k bounds.now }
@@ -124,7 +124,7 @@ fn conflict(
     from: usize,
     bounds: &[u64; RANGES_WORDS],
 ) -> usize
-    requires { asked.count ≤ 2 * rowLimit }
+    requires { asked.count ≤ 2 * row_limit }
     ensures { (from ≤ result) × Peace (sides first.now second.now entries.now asked.count asked.field) asked.second asked.row from result bounds.now }
 {
     let count = asked.count;
@@ -152,7 +152,7 @@ fn after(
     k: usize,
     bounds: &[u64; RANGES_WORDS],
 ) -> usize
-    requires { (k ≤ asked.count) × (asked.count ≤ 2 * rowLimit) }
+    requires { (k ≤ asked.count) × (asked.count ≤ 2 * row_limit) }
     ensures { (suc k ≤ result) × Peace (sides first.now second.now entries.now asked.count asked.field) asked.second asked.row (suc k) result bounds.now }
 {
     let count = asked.count;
@@ -174,7 +174,7 @@ fn conflicts_hidden(
     bounds: Bounds,
     parts: usize,
 ) -> Known
-    requires { asked.count ≤ 2 * rowLimit }
+    requires { asked.count ≤ 2 * row_limit }
     ensures { (result.left ≤ parts) × (result.yes ≡ true → Peace (sides first.now second.now entries.now asked.count asked.field) asked.second asked.row from (suc asked.count) bounds.words) }
 {
     let count = asked.count;
@@ -204,7 +204,7 @@ fn harmless(
     bounds: Bounds,
     parts: usize,
 ) -> Known
-    requires { (asked.row < asked.count) × (asked.count ≤ 2 * rowLimit) }
+    requires { (asked.row < asked.count) × (asked.count ≤ 2 * row_limit) }
     ensures { (result.left ≤ parts) × (result.yes ≡ true → Harmless (sides first.now second.now entries.now asked.count asked.field) asked.second asked.row bounds.words) }
 {
     let count = asked.count;
@@ -227,7 +227,7 @@ fn harmless(
 
 // The side of an entry that is on one side only: 1 the first, 2 the second; 0 for any other.
 fn lone(code: u32) -> u64
-    ensures { (s : Bool) → onSide s code ≡ true → onSide (not s) code ≡ false → result ≡ cond s 2 1 }
+    ensures { (s : Bool) → on_side s code ≡ true → on_side (not s) code ≡ false → result ≡ cond s 2 1 }
 {
     let sides = code % 4;
     if sides == 1 {
@@ -248,7 +248,7 @@ pub(crate) fn agreed(
     field: usize,
     bounds: Bounds,
 ) -> bool
-    requires { count ≤ 2 * rowLimit }
+    requires { count ≤ 2 * row_limit }
     ensures { result ≡ true → Agreed (sides first.now second.now entries.now count field) bounds.words }
 {
     let mut left = PARTS;

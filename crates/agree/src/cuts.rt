@@ -1,9 +1,9 @@
 // Rows that may part two values of a field: all but those that discard and are met by none that acts otherwise.
 ghost use Rattle.std.specs.Prelude.{◌≡◌, false, ℕ, ◌≤◌, ◌<◌, length, get_or, take};
-ghost use Rattle.selectors.specs.Words.{fieldCount};
-ghost use Rattle.policy.specs.Words.{rowLimit};
+ghost use Rattle.selectors.specs.Words.{field_count};
+ghost use Rattle.policy.specs.Words.{row_limit};
 ghost use Rattle.cover.specs.Boxes.{RowsApart};
-ghost use Rattle.agree.specs.Sides.{actionIn, doesAct, Takes, Cutting};
+ghost use Rattle.agree.specs.Sides.{action_in, does_act, Takes, Cutting};
 
 use crate::entries::action_in;
 use cover::{rows_apart, wide};
@@ -11,7 +11,7 @@ use policy::LIMIT;
 
 // Whether a row does not discard.
 fn acts(rows: &[u64], row: u16) -> bool
-    ensures { result ≡ doesAct rows.now row }
+    ensures { result ≡ does_act rows.now row }
 {
     action_in(rows, wide(row)) != 0
 }
@@ -23,8 +23,8 @@ pub(crate) fn acting(
     total: usize,
     actors: &mut [u16; LIMIT],
 ) -> usize
-    requires { (length list.now ≡ rowLimit) × ((total ≤ rowLimit) × (length actors.old ≡ rowLimit)) }
-    ensures { Takes (λ i. doesAct rows.now i) (take total list.now) actors.new result }
+    requires { (length list.now ≡ row_limit) × ((total ≤ row_limit) × (length actors.old ≡ row_limit)) }
+    ensures { Takes (λ i. does_act rows.now i) (take total list.now) actors.new result }
 {
     let mut count: usize = 0;
     let mut i: usize = 0;
@@ -41,7 +41,7 @@ pub(crate) fn acting(
 
 // Whether a row may be met by one of the first listed rows, in the fields from `field` on.
 fn may_meet(rows: &[u64], row: u16, actors: &[u16; LIMIT], count: usize, field: usize) -> bool
-    requires { (length actors.now ≡ rowLimit) × (count ≤ rowLimit) }
+    requires { (length actors.now ≡ row_limit) × (count ≤ row_limit) }
     ensures { result ≡ false → (k : ℕ) → k < count → RowsApart rows.now row (get_or actors.now k 0) field }
 {
     let mut k: usize = 0;
@@ -56,8 +56,8 @@ fn may_meet(rows: &[u64], row: u16, actors: &[u16; LIMIT], count: usize, field: 
 
 // Whether a row does not discard, or may be met by one of the listed rows.
 fn may_cut(rows: &[u64], row: u16, actors: &[u16; LIMIT], count: usize, field: usize) -> bool
-    requires { (length actors.now ≡ rowLimit) × (count ≤ rowLimit) }
-    ensures { result ≡ false → (actionIn rows.now row ≡ 0) × ((k : ℕ) → k < count → RowsApart rows.now row (get_or actors.now k 0) field) }
+    requires { (length actors.now ≡ row_limit) × (count ≤ row_limit) }
+    ensures { result ≡ false → (action_in rows.now row ≡ 0) × ((k : ℕ) → k < count → RowsApart rows.now row (get_or actors.now k 0) field) }
 {
     if acts(rows, row) {
         return true;
@@ -75,8 +75,8 @@ pub(crate) fn cutting_among(
     field: usize,
     cuts: &mut [u16; LIMIT],
 ) -> usize
-    requires list_len { (length list.now ≡ rowLimit) × ((total ≤ rowLimit) × (length cuts.old ≡ rowLimit)) }
-    requires field_lt_field_count { (field < fieldCount) × Takes (λ i. doesAct rows.now i) (take total list.now) actors.now count }
+    requires list_len { (length list.now ≡ row_limit) × ((total ≤ row_limit) × (length cuts.old ≡ row_limit)) }
+    requires field_lt_field_count { (field < field_count) × Takes (λ i. does_act rows.now i) (take total list.now) actors.now count }
     ensures { Cutting rows.now (take total list.now) field cuts.new result }
 {
     let mut n: usize = 0;

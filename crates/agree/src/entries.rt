@@ -1,7 +1,7 @@
 // Entries, rows of two policies with the end row behind them: the sides that they are on, their actions, how they stand to a box.
 ghost use Rattle.std.specs.Prelude.{◌≡◌, true, ◌*◌, ◌≤◌, ◌<◌};
-ghost use Rattle.policy.specs.Words.{rowLimit};
-ghost use Rattle.agree.specs.Sides.{actionIn, onSide, codeAction, sides, onAt, actionAt, EntryApart, EntryCovers, EntryCommon};
+ghost use Rattle.policy.specs.Words.{row_limit};
+ghost use Rattle.agree.specs.Sides.{action_in, on_side, code_action, sides, on_at, action_at, EntryApart, EntryCovers, EntryCommon};
 
 use cover::{Bounds, MOST, apart_from, common, covers, in_second, row_of};
 use policy::ROW_WORDS;
@@ -9,7 +9,7 @@ use selectors::words::RANGES_WORDS;
 
 // Whether the row of a code is on a side.
 pub(crate) fn on(code: u32, second: bool) -> bool
-    ensures { result ≡ onSide second code }
+    ensures { result ≡ on_side second code }
 {
     if second {
         return code / 2 % 2 == 1;
@@ -20,7 +20,7 @@ pub(crate) fn on(code: u32, second: bool) -> bool
 // The action's word of a row; 0 if the word is not there.
 pub(crate) fn action_in(rows: &[u64], row: usize) -> u64
     requires { row < 4294967296 }
-    ensures { result ≡ actionIn rows.now row }
+    ensures { result ≡ action_in rows.now row }
 {
     let at = row * ROW_WORDS + 1;
     if at < rows.len() {
@@ -30,7 +30,7 @@ pub(crate) fn action_in(rows: &[u64], row: usize) -> u64
 }
 
 fn code_action(first: &[u64], second: &[u64], code: u32) -> u64
-    ensures { result ≡ codeAction first.now second.now code }
+    ensures { result ≡ code_action first.now second.now code }
 {
     if in_second(code) {
         return action_in(second, row_of(code));
@@ -39,8 +39,8 @@ fn code_action(first: &[u64], second: &[u64], code: u32) -> u64
 }
 
 pub(crate) fn entry_on(entries: &[u32; MOST], count: usize, k: usize, second: bool) -> bool
-    requires { count ≤ 2 * rowLimit }
-    ensures { result ≡ onAt entries.now count second k }
+    requires { count ≤ 2 * row_limit }
+    ensures { result ≡ on_at entries.now count second k }
 {
     if k < count {
         return on(entries[k], second);
@@ -55,8 +55,8 @@ pub(crate) fn entry_action(
     count: usize,
     k: usize,
 ) -> u64
-    requires { count ≤ 2 * rowLimit }
-    ensures { result ≡ actionAt (sides first.now second.now entries.now count 0) k }
+    requires { count ≤ 2 * row_limit }
+    ensures { result ≡ action_at (sides first.now second.now entries.now count 0) k }
 {
     if k < count {
         return code_action(first, second, entries[k]);
@@ -74,7 +74,7 @@ pub(crate) fn entry_apart(
     field: usize,
     bounds: &[u64; RANGES_WORDS],
 ) -> bool
-    requires { count ≤ 2 * rowLimit }
+    requires { count ≤ 2 * row_limit }
     ensures { result ≡ true → EntryApart (sides first.now second.now entries.now count field) k bounds.now }
 {
     if k < count {
@@ -92,7 +92,7 @@ pub(crate) fn entry_covers(
     field: usize,
     bounds: &[u64; RANGES_WORDS],
 ) -> bool
-    requires { count ≤ 2 * rowLimit }
+    requires { count ≤ 2 * row_limit }
     ensures { result ≡ true → EntryCovers (sides first.now second.now entries.now count field) k bounds.now }
 {
     if k < count {
@@ -111,7 +111,7 @@ pub(crate) fn entry_common(
     field: usize,
     bounds: Bounds,
 ) -> Bounds
-    requires { count ≤ 2 * rowLimit }
+    requires { count ≤ 2 * row_limit }
     ensures { EntryCommon (sides first.now second.now entries.now count field) k bounds.words result.words }
 {
     if k < count {

@@ -7,8 +7,8 @@ mod merging;
 ghost use Rattle.std.specs.Prelude.{◌≡◌, true, ◌+◌, ◌≤◌, ◌<◌, take};
 ghost use Rattle.selectors.specs.Range.{contains};
 ghost use Rattle.selectors.specs.Value.{number};
-ghost use Rattle.selectors.specs.Words.{fieldCount};
-ghost use Rattle.policy.specs.Words.{rowLimit};
+ghost use Rattle.selectors.specs.Words.{field_count};
+ghost use Rattle.policy.specs.Words.{row_limit};
 ghost use Rattle.agree.specs.Sides.{those, range_of, Alike, Cutting};
 
 use crate::agreement::agreed;
@@ -105,7 +105,7 @@ pub fn cutting(
     field: usize,
     cuts: &mut [u16; LIMIT],
 ) -> usize
-    ensures { total ≤ rowLimit → field < fieldCount → Cutting rows.now (take total list.now) field cuts.new result }
+    ensures { total ≤ row_limit → field < field_count → Cutting rows.now (take total list.now) field cuts.new result }
 {
     // As slices the lists have their lengths in the proof.
     let places: &[u16] = list;

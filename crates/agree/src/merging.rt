@@ -2,9 +2,9 @@
 ghost use Rattle.std.specs.Prelude.{◌≡◌, true, ℕ, ◌+◌, ◌*◌, ◌≤◌, ◌<◌, length, get_or, take};
 ghost use Rattle.selectors.specs.Range.{contains};
 ghost use Rattle.selectors.specs.Value.{number};
-ghost use Rattle.selectors.specs.Words.{fieldCount};
-ghost use Rattle.policy.specs.Words.{rowWords, rowLimit};
-ghost use Rattle.agree.specs.Sides.{There, sidesOf, SideRows, Next, rowBehind, those, range_of};
+ghost use Rattle.selectors.specs.Words.{field_count};
+ghost use Rattle.policy.specs.Words.{row_words, row_limit};
+ghost use Rattle.agree.specs.Sides.{There, sides_of, SideRows, Next, row_behind, those, range_of};
 
 use crate::{BOTH, FIRST, SECOND};
 use cover::{MOST, wide};
@@ -34,8 +34,8 @@ pub(crate) fn there(rows: &[u64], list: &[u16; LIMIT], total: usize) -> bool
 
 // The sides of a row at a cut: the first where its range of the field holds the one value, the second where it holds the other.
 fn sides_of(rows: &[u64], row: u16, field: usize, one: Value, other: Value) -> u32
-    requires { field < fieldCount }
-    ensures { result ≡ sidesOf (range_of rows.now row field) (number one) (number other) }
+    requires { field < field_count }
+    ensures { result ≡ sides_of (range_of rows.now row field) (number one) (number other) }
 {
     let at = wide(row) * ROW_WORDS + HEAD_WORDS + RANGE_WORDS * field;
     let ends = ends_at(rows, at);
@@ -72,8 +72,8 @@ pub(crate) fn cut_entries(
     other: Value,
     entries: &mut [u32; MOST],
 ) -> usize
-    requires field_lt_field_count { (field < fieldCount) × There rows.now list.now total }
-    requires entries_len { length entries.old ≡ 2 * rowLimit }
+    requires field_lt_field_count { (field < field_count) × There rows.now list.now total }
+    requires entries_len { length entries.old ≡ 2 * row_limit }
     ensures { SideRows rows.now rows.now (those (λ i. contains (range_of rows.now i field) (number one)) (take total list.now)) (those (λ i. contains (range_of rows.now i field) (number other)) (take total list.now)) entries.new result }
 {
     let mut count: usize = 0;
@@ -92,8 +92,8 @@ pub(crate) fn cut_entries(
 
 // Whether two rows have the same action and ranges.
 fn same_row(first: &[u64], a: usize, second: &[u64], b: usize) -> bool
-    requires { (a * rowWords + rowWords ≤ length first.now) × (b * rowWords + rowWords ≤ length second.now) }
-    ensures { result ≡ true → (f : ℕ) → rowBehind first.now f a ≡ rowBehind second.now f b }
+    requires { (a * row_words + row_words ≤ length first.now) × (b * row_words + row_words ≤ length second.now) }
+    ensures { result ≡ true → (f : ℕ) → row_behind first.now f a ≡ row_behind second.now f b }
 {
     let left = a * ROW_WORDS;
     let right = b * ROW_WORDS;
@@ -116,7 +116,7 @@ fn ahead(
     from: usize,
     total: usize,
 ) -> usize
-    requires { (row * rowWords + rowWords ≤ length rows.now) × There others.now list.now total }
+    requires { (row * row_words + row_words ≤ length rows.now) × There others.now list.now total }
 {
     let mut k = from;
     while k < total {
@@ -176,7 +176,7 @@ fn code_of(who: u64, a: u16, b: u16) -> u32
 
 // The row at a place of a list, or 0 behind its end.
 fn listed(list: &[u16; LIMIT], i: usize, total: usize) -> u16
-    requires { total ≤ rowLimit }
+    requires { total ≤ row_limit }
     ensures { i < total → result ≡ get_or list.now i 0 }
 {
     if i < total {
@@ -205,7 +205,7 @@ pub(crate) fn merge(
     entries: &mut [u32; MOST],
 ) -> usize
     requires there { There first.now of_first.now firsts × There second.now of_second.now seconds }
-    requires entries_len { length entries.old ≡ 2 * rowLimit }
+    requires entries_len { length entries.old ≡ 2 * row_limit }
     ensures { SideRows first.now second.now (take firsts of_first.now) (take seconds of_second.now) entries.new result }
 {
     let mut i: usize = 0;

@@ -1,15 +1,15 @@
 // Document 01's number of each answer, and what the answer carries.
 ghost use Rattle.std.specs.Prelude.{◌≡◌};
-ghost use Rattle.policy_text.specs.Editions.{refusalNumber, refusalCarries};
-ghost use Rattle.policy_parse.specs.Parsing.{parsedNumber};
-ghost use Rattle.policy_print.specs.Printing.{printedNumber};
-ghost use Rattle.decorrelate.specs.Form.{directionNumber};
-ghost use Rattle.normal_form_file.specs.Normalise.{normalisedNumber, normalisedCarries};
-ghost use Rattle.same_policy.specs.Same.{comparedNumber};
-ghost use Rattle.acceptance.specs.Spd.{acceptanceNumber, acceptanceCarries};
-ghost use Rattle.sad.specs.Pairs.{outcomeNumber};
-ghost use Rattle.verdicts.specs.Verdict.{verdictNumber, carried};
-ghost use Rattle.answer_numbers.specs.Carries.{parsedCarries, printedCarries, comparedWords};
+ghost use Rattle.policy_text.specs.Editions.{refusal_number, refusal_carries};
+ghost use Rattle.policy_parse.specs.Parsing.{parsed_number};
+ghost use Rattle.policy_print.specs.Printing.{printed_number};
+ghost use Rattle.decorrelate.specs.Form.{direction_number};
+ghost use Rattle.normal_form_file.specs.Normalise.{normalised_number, normalised_carries};
+ghost use Rattle.same_policy.specs.Same.{compared_number};
+ghost use Rattle.acceptance.specs.Spd.{acceptance_number, acceptance_carries};
+ghost use Rattle.sad.specs.Pairs.{outcome_number};
+ghost use Rattle.verdicts.specs.Verdict.{verdict_number, carried};
+ghost use Rattle.answer_numbers.specs.Carries.{parsed_carries, printed_carries, compared_words};
 
 use acceptance::Acceptance;
 use normal_form_file::Normalised;
@@ -21,7 +21,7 @@ use selectors::Direction;
 use verdicts::Verdict;
 
 pub fn direction_number(direction: Direction) -> u64
-    ensures { result ≡ directionNumber direction }
+    ensures { result ≡ direction_number direction }
 {
     match direction {
         Direction::Out => 1,
@@ -30,7 +30,7 @@ pub fn direction_number(direction: Direction) -> u64
 }
 
 pub fn verdict_number(verdict: Verdict) -> u64
-    ensures { result ≡ verdictNumber verdict }
+    ensures { result ≡ verdict_number verdict }
 {
     match verdict {
         Verdict::Pass => 0,
@@ -72,7 +72,7 @@ pub fn verdict_carries(verdict: Verdict) -> [u64; 3]
 }
 
 pub fn outcome_number(outcome: Outcome) -> u64
-    ensures { result ≡ outcomeNumber outcome }
+    ensures { result ≡ outcome_number outcome }
 {
     match outcome {
         Outcome::Done => 5,
@@ -85,7 +85,7 @@ pub fn outcome_number(outcome: Outcome) -> u64
 }
 
 pub fn refusal_number(refusal: Refusal) -> u64
-    ensures { result ≡ refusalNumber refusal }
+    ensures { result ≡ refusal_number refusal }
 {
     match refusal {
         Refusal::NotHeader => 23,
@@ -96,7 +96,7 @@ pub fn refusal_number(refusal: Refusal) -> u64
 }
 
 pub fn refusal_carries(refusal: Refusal) -> u64
-    ensures { result ≡ refusalCarries refusal }
+    ensures { result ≡ refusal_carries refusal }
 {
     match refusal {
         Refusal::NotHeader => 0,
@@ -107,7 +107,7 @@ pub fn refusal_carries(refusal: Refusal) -> u64
 }
 
 pub fn parsed_number(parsed: Parsed) -> u64
-    ensures { result ≡ parsedNumber parsed }
+    ensures { result ≡ parsed_number parsed }
 {
     match parsed {
         Parsed::Rows(_, _) => 5,
@@ -117,7 +117,7 @@ pub fn parsed_number(parsed: Parsed) -> u64
 }
 
 pub fn parsed_carries(parsed: Parsed) -> u64
-    ensures { result ≡ parsedCarries parsed }
+    ensures { result ≡ parsed_carries parsed }
 {
     match parsed {
         Parsed::Rows(_, count) => count as u64,
@@ -127,7 +127,7 @@ pub fn parsed_carries(parsed: Parsed) -> u64
 }
 
 pub fn printed_number(printed: Printed) -> u64
-    ensures { result ≡ printedNumber printed }
+    ensures { result ≡ printed_number printed }
 {
     match printed {
         Printed::Bytes(_) => 5,
@@ -136,7 +136,7 @@ pub fn printed_number(printed: Printed) -> u64
 }
 
 pub fn printed_carries(printed: Printed) -> u64
-    ensures { result ≡ printedCarries printed }
+    ensures { result ≡ printed_carries printed }
 {
     match printed {
         Printed::Bytes(count) => count as u64,
@@ -145,7 +145,7 @@ pub fn printed_carries(printed: Printed) -> u64
 }
 
 pub fn normalised_number(normalised: Normalised) -> u64
-    ensures { result ≡ normalisedNumber normalised }
+    ensures { result ≡ normalised_number normalised }
 {
     match normalised {
         Normalised::Printed(_) => 5,
@@ -156,7 +156,7 @@ pub fn normalised_number(normalised: Normalised) -> u64
 }
 
 pub fn normalised_carries(normalised: Normalised) -> u64
-    ensures { result ≡ normalisedCarries normalised }
+    ensures { result ≡ normalised_carries normalised }
 {
     match normalised {
         Normalised::Printed(count) => count as u64,
@@ -167,7 +167,7 @@ pub fn normalised_carries(normalised: Normalised) -> u64
 }
 
 pub fn acceptance_number(acceptance: Acceptance) -> u64
-    ensures { result ≡ acceptanceNumber acceptance }
+    ensures { result ≡ acceptance_number acceptance }
 {
     match acceptance {
         Acceptance::Accepted => 5,
@@ -177,7 +177,7 @@ pub fn acceptance_number(acceptance: Acceptance) -> u64
 }
 
 pub fn acceptance_carries(acceptance: Acceptance) -> u64
-    ensures { result ≡ acceptanceCarries acceptance }
+    ensures { result ≡ acceptance_carries acceptance }
 {
     match acceptance {
         Acceptance::Accepted => 0,
@@ -187,7 +187,7 @@ pub fn acceptance_carries(acceptance: Acceptance) -> u64
 }
 
 pub fn compared_number(compared: Compared) -> u64
-    ensures { result ≡ comparedNumber compared }
+    ensures { result ≡ compared_number compared }
 {
     match compared {
         Compared::Same => 5,
@@ -198,7 +198,7 @@ pub fn compared_number(compared: Compared) -> u64
 }
 
 pub fn compared_carries(compared: Compared) -> [u64; 2]
-    ensures { result ≡ comparedWords compared }
+    ensures { result ≡ compared_words compared }
 {
     match compared {
         Compared::Same => [1, 0],

@@ -10,9 +10,9 @@ abbrev pub among : ℕ → List ℕ → Bool
 among n [] = false
 among n (m ∷ ms) = cond (eqb n m) true (among n ms)
 
-pub among-list : (n : ℕ) (ms : List ℕ) → among n ms ≡ true → Memᴰ n ms
-among-list n [] e = absurd (false≢true e)
-among-list n (m ∷ ms) e = by (eqb n m) refl e (among-list n ms)
+pub among_list : (n : ℕ) (ms : List ℕ) → among n ms ≡ true → Memᴰ n ms
+among_list n [] e = absurd (false≢true e)
+among_list n (m ∷ ms) e = by (eqb n m) refl e (among_list n ms)
   where
     by : (b : Bool) → eqb n m ≡ b → cond b true (among n ms) ≡ true → (among n ms ≡ true → Memᴰ n ms) → Memᴰ n (m ∷ ms)
     by true q e f = Memᴰ.head (eqb-true n m q)

@@ -16,12 +16,12 @@ pub is_false : {P : Type 0} {b : Bool} → Decides P b → ¬ P → b ≡ false
 is_false (holding h) n = absurd (n h)
 is_false (failing m) n = refl
 
-pub decides-iff : {P Q : Type 0} {b : Bool} → (P → Q) → (Q → P) → Decides P b → Decides Q b
-decides-iff f g (holding h) = holding (f h)
-decides-iff f g (failing n) = failing (λ q. n (g q))
+pub decides_iff : {P Q : Type 0} {b : Bool} → (P → Q) → (Q → P) → Decides P b → Decides Q b
+decides_iff f g (holding h) = holding (f h)
+decides_iff f g (failing n) = failing (λ q. n (g q))
 
-pub decides-equal : {P : Type 0} {a b : Bool} → a ≡ b → Decides P a → Decides P b
-decides-equal {P} e d = subst (Decides P) e d
+pub decides_equal : {P : Type 0} {a b : Bool} → a ≡ b → Decides P a → Decides P b
+decides_equal {P} e d = subst (Decides P) e d
 
 pub decides_not : {P : Type 0} {b : Bool} → Decides P b → Decides (¬ P) (not b)
 decides_not (holding h) = failing (λ n. n h)
@@ -38,15 +38,15 @@ decides_or (failing n) (holding g) = holding (inr g)
 decides_or (failing n) (failing m) = failing (⊎_elim n m)
 
 module _ (a b : ℕ) where
-  pub decides-le : Decides (a ≤ b) (leb a b)
-  decides-le = by (leb a b) refl
+  pub decides_le : Decides (a ≤ b) (leb a b)
+  decides_le = by (leb a b) refl
     where
       by : (t : Bool) → leb a b ≡ t → Decides (a ≤ b) t
       by true e = holding (leb-true a b e)
       by false e = failing (omega (arith, leb-false a b e))
 
-  pub decides-lt : Decides (a < b) (ltb a b)
-  decides-lt = by (ltb a b) refl
+  pub decides_lt : Decides (a < b) (ltb a b)
+  decides_lt = by (ltb a b) refl
     where
       by : (t : Bool) → ltb a b ≡ t → Decides (a < b) t
       by true e = holding (ltb-true a b e)
@@ -60,6 +60,6 @@ module _ (a b : ℕ) where
       by false e = failing (eqb-false a b e)
 
 -- A flag that is set decides itself.
-pub decides-flag : (b : Bool) → Decides (b ≡ true) b
-decides-flag true = holding refl
-decides-flag false = failing (λ e. false≢true e)
+pub decides_flag : (b : Bool) → Decides (b ≡ true) b
+decides_flag true = holding refl
+decides_flag false = failing (λ e. false≢true e)

@@ -3,18 +3,18 @@ use Rattle.std.specs.Prelude.{ℕ, ◌≡◌, refl, cond, List, ◌↔◌, eqb, 
 use Rattle.std.proofs.Common.{sym, ap, ◌∙◌, subst}
 use Rattle.selectors.specs.declared.Direction.{Direction}
 use Rattle.selectors.specs.declared.Direction.TheVariants.{Out, In}
-use Rattle.verdicts.specs.Verdict.{verdictNumber, carried}
+use Rattle.verdicts.specs.Verdict.{verdict_number, carried}
 use Rattle.verdicts.specs.declared.Verdict.{Verdict}
 use Rattle.verdicts.specs.declared.Verdict.TheVariants.{Pass, Deliver, Protect, Wanted, ToIpsec, NotReadable, Discarded, CameInClear, NoSuchPair, DoesNotFit, IpsecFragment, IpsecTooShort, TriggerUnreadable, TriggerDoesNotFit}
-use Rattle.sad.specs.Pairs.{outcomeNumber}
+use Rattle.sad.specs.Pairs.{outcome_number}
 use Rattle.sad.specs.declared.Outcome.{Outcome}
 use Rattle.sad.specs.declared.Outcome.TheVariants.{Done, ReservedSpi, AlreadyLive, TableFull, BadPair, NothingToRemove}
 use Rattle.policy_text.specs.declared.Refusal.{Refusal}
 use Rattle.policy_text.specs.declared.Refusal.TheVariants.{NotHeader, NotEnded, TooMany, BadRow}
-use Rattle.normal_form_file.specs.Normalise.{normalisedNumber, normalisedCarries}
+use Rattle.normal_form_file.specs.Normalise.{normalised_number, normalised_carries}
 use Rattle.normal_form_file.specs.declared.Normalised.{Normalised}
 use Rattle.normal_form_file.specs.declared.Normalised.TheVariants.{Printed, Refused, TooLarge, NoRoom}
-use Rattle.acceptance.specs.Spd.{acceptanceNumber, acceptanceCarries}
+use Rattle.acceptance.specs.Spd.{acceptance_number, acceptance_carries}
 use Rattle.acceptance.specs.declared.Acceptance.{Acceptance}
 use Rattle.acceptance.specs.declared.Acceptance.TheVariants.{Accepted, Refused as RefusedFile, TooLarge as OverForm}
 
@@ -23,8 +23,8 @@ pub record Ruled {A : Type 0} (Rule : A → Type 0) (a : A) : Type 0 where
   pub holds : Rule a
   pub only : (b : A) → Rule b → a ≡ b
 
-pub rule-iff : {A : Type 0} {Rule : A → Type 0} {a : A} → Ruled Rule a → (b : A) → (a ≡ b) ↔ Rule b
-rule-iff {A} {Rule} r b = (λ e. subst Rule e r.holds, r.only b)
+pub rule_iff : {A : Type 0} {Rule : A → Type 0} {a : A} → Ruled Rule a → (b : A) → (a ≡ b) ↔ Rule b
+rule_iff {A} {Rule} r b = (λ e. subst Rule e r.holds, r.only b)
 
 -- Answers of a kind, told by their number and what they carry: `answer_of` is the answer of a number and values.
 module _ {A X : Type 0} (number : A → ℕ) (values : A → X) (answer_of : ℕ → X → A) (told : (a : A) → answer_of (number a) (values a) ≡ a)
@@ -32,17 +32,17 @@ module _ {A X : Type 0} (number : A → ℕ) (values : A → X) (answer_of : ℕ
   -- By the number alone, and by the number and what is carried.
   by_number : (n : ℕ) → number (answer_of n (values a)) ≡ n → (number a ≡ n) ↔ Rule (answer_of n (values a))
   by_number n e =
-      let iff = rule-iff r (answer_of n (values a)) in
+      let iff = rule_iff r (answer_of n (values a)) in
       (λ h. iff.0 (sym (told a) ∙ ap (λ (m : ℕ). answer_of m (values a)) h), λ q. ap number (iff.1 q) ∙ e)
 
   by_both : (n : ℕ) (x : X) → number (answer_of n x) ≡ n → values (answer_of n x) ≡ x → ((number a ≡ n) × (values a ≡ x)) ↔ Rule (answer_of n x)
   by_both n x e f =
-      let iff = rule-iff r (answer_of n x) in
+      let iff = rule_iff r (answer_of n x) in
       (λ h. iff.0 (sym (told a) ∙ rw (h.0, h.1)), λ q. (ap number (iff.1 q) ∙ e, ap values (iff.1 q) ∙ f))
 
 -- The verdict of a number and values.
-abbrev pub verdictOf : ℕ → List ℕ → Verdict
-verdictOf n xs =
+abbrev pub verdict_of : ℕ → List ℕ → Verdict
+verdict_of n xs =
     cond (eqb n 0) Pass
     (cond (eqb n 1) Deliver
     (cond (eqb n 2) (Protect (get_or xs 0 0) (get_or xs 1 0) (get_or xs 2 0))
@@ -58,33 +58,33 @@ verdictOf n xs =
     (cond (eqb n 17) TriggerUnreadable
     TriggerDoesNotFit))))))))))))
 
-verdict-told : (v : Verdict) → verdictOf (verdictNumber v) (carried v) ≡ v
-verdict-told Pass = refl
-verdict-told Deliver = refl
-verdict-told (Protect n protocol spi) = refl
-verdict-told (Wanted n) = refl
-verdict-told (ToIpsec protocol spi) = refl
-verdict-told NotReadable = refl
-verdict-told Discarded = refl
-verdict-told CameInClear = refl
-verdict-told NoSuchPair = refl
-verdict-told DoesNotFit = refl
-verdict-told IpsecFragment = refl
-verdict-told IpsecTooShort = refl
-verdict-told TriggerUnreadable = refl
-verdict-told TriggerDoesNotFit = refl
+verdict_told : (v : Verdict) → verdict_of (verdict_number v) (carried v) ≡ v
+verdict_told Pass = refl
+verdict_told Deliver = refl
+verdict_told (Protect n protocol spi) = refl
+verdict_told (Wanted n) = refl
+verdict_told (ToIpsec protocol spi) = refl
+verdict_told NotReadable = refl
+verdict_told Discarded = refl
+verdict_told CameInClear = refl
+verdict_told NoSuchPair = refl
+verdict_told DoesNotFit = refl
+verdict_told IpsecFragment = refl
+verdict_told IpsecTooShort = refl
+verdict_told TriggerUnreadable = refl
+verdict_told TriggerDoesNotFit = refl
 
 module _ {Rule : Verdict → Type 0} {v : Verdict} (r : Ruled Rule v) where
-  pub verdict-exactly : (n : ℕ) → verdictNumber (verdictOf n (carried v)) ≡ n → (verdictNumber v ≡ n) ↔ Rule (verdictOf n (carried v))
-  verdict-exactly = by_number verdictNumber carried verdictOf verdict-told r
+  pub verdict_exactly : (n : ℕ) → verdict_number (verdict_of n (carried v)) ≡ n → (verdict_number v ≡ n) ↔ Rule (verdict_of n (carried v))
+  verdict_exactly = by_number verdict_number carried verdict_of verdict_told r
 
-  pub verdict-carrying : (n : ℕ) (xs : List ℕ) → verdictNumber (verdictOf n xs) ≡ n → carried (verdictOf n xs) ≡ xs
-      → ((verdictNumber v ≡ n) × (carried v ≡ xs)) ↔ Rule (verdictOf n xs)
-  verdict-carrying = by_both verdictNumber carried verdictOf verdict-told r
+  pub verdict_carrying : (n : ℕ) (xs : List ℕ) → verdict_number (verdict_of n xs) ≡ n → carried (verdict_of n xs) ≡ xs
+      → ((verdict_number v ≡ n) × (carried v ≡ xs)) ↔ Rule (verdict_of n xs)
+  verdict_carrying = by_both verdict_number carried verdict_of verdict_told r
 
 -- The outcome of a number: it carries nothing.
-abbrev pub outcomeOf : ℕ → Outcome
-outcomeOf n =
+abbrev pub outcome_of : ℕ → Outcome
+outcome_of n =
     cond (eqb n 5) Done
     (cond (eqb n 25) ReservedSpi
     (cond (eqb n 26) AlreadyLive
@@ -92,73 +92,73 @@ outcomeOf n =
     (cond (eqb n 28) BadPair
     NothingToRemove))))
 
-outcome-told : (o : Outcome) → outcomeOf (outcomeNumber o) ≡ o
-outcome-told Done = refl
-outcome-told ReservedSpi = refl
-outcome-told AlreadyLive = refl
-outcome-told TableFull = refl
-outcome-told BadPair = refl
-outcome-told NothingToRemove = refl
+outcome_told : (o : Outcome) → outcome_of (outcome_number o) ≡ o
+outcome_told Done = refl
+outcome_told ReservedSpi = refl
+outcome_told AlreadyLive = refl
+outcome_told TableFull = refl
+outcome_told BadPair = refl
+outcome_told NothingToRemove = refl
 
-pub outcome-exactly : {Rule : Outcome → Type 0} {o : Outcome} → Ruled Rule o → (n : ℕ) → outcomeNumber (outcomeOf n) ≡ n
-    → (outcomeNumber o ≡ n) ↔ Rule (outcomeOf n)
-outcome-exactly r = by_number outcomeNumber (λ (o : Outcome). 0) (λ (n x : ℕ). outcomeOf n) outcome-told r
+pub outcome_exactly : {Rule : Outcome → Type 0} {o : Outcome} → Ruled Rule o → (n : ℕ) → outcome_number (outcome_of n) ≡ n
+    → (outcome_number o ≡ n) ↔ Rule (outcome_of n)
+outcome_exactly r = by_number outcome_number (λ (o : Outcome). 0) (λ (n x : ℕ). outcome_of n) outcome_told r
 
 -- The refusal of a file, of a number and a value.
-abbrev pub refusalOf : ℕ → ℕ → Refusal
-refusalOf n x = cond (eqb n 20) (BadRow x) (cond (eqb n 21) TooMany (cond (eqb n 23) NotHeader NotEnded))
+abbrev pub refusal_of : ℕ → ℕ → Refusal
+refusal_of n x = cond (eqb n 20) (BadRow x) (cond (eqb n 21) TooMany (cond (eqb n 23) NotHeader NotEnded))
 
 -- The answer of a print, of a number and a value.
-abbrev pub directionOf : ℕ → Direction
-directionOf x = cond (eqb x 1) Out In
+abbrev pub direction_of : ℕ → Direction
+direction_of x = cond (eqb x 1) Out In
 
-abbrev pub normalisedOf : ℕ → ℕ → Normalised
-normalisedOf n x =
+abbrev pub normalised_of : ℕ → ℕ → Normalised
+normalised_of n x =
     cond (eqb n 5) (Printed x)
-    (cond (eqb n 22) (TooLarge (directionOf x))
+    (cond (eqb n 22) (TooLarge (direction_of x))
     (cond (eqb n 31) NoRoom
-    (Refused (refusalOf n x))))
+    (Refused (refusal_of n x))))
 
-normalised-told : (a : Normalised) → normalisedOf (normalisedNumber a) (normalisedCarries a) ≡ a
-normalised-told (Printed n) = refl
-normalised-told (Refused NotHeader) = refl
-normalised-told (Refused NotEnded) = refl
-normalised-told (Refused TooMany) = refl
-normalised-told (Refused (BadRow i)) = refl
-normalised-told (TooLarge Out) = refl
-normalised-told (TooLarge In) = refl
-normalised-told NoRoom = refl
+normalised_told : (a : Normalised) → normalised_of (normalised_number a) (normalised_carries a) ≡ a
+normalised_told (Printed n) = refl
+normalised_told (Refused NotHeader) = refl
+normalised_told (Refused NotEnded) = refl
+normalised_told (Refused TooMany) = refl
+normalised_told (Refused (BadRow i)) = refl
+normalised_told (TooLarge Out) = refl
+normalised_told (TooLarge In) = refl
+normalised_told NoRoom = refl
 
 module _ {Rule : Normalised → Type 0} {a : Normalised} (r : Ruled Rule a) where
-  pub normalised-exactly : (n : ℕ) → normalisedNumber (normalisedOf n (normalisedCarries a)) ≡ n
-      → (normalisedNumber a ≡ n) ↔ Rule (normalisedOf n (normalisedCarries a))
-  normalised-exactly = by_number normalisedNumber normalisedCarries normalisedOf normalised-told r
+  pub normalised_exactly : (n : ℕ) → normalised_number (normalised_of n (normalised_carries a)) ≡ n
+      → (normalised_number a ≡ n) ↔ Rule (normalised_of n (normalised_carries a))
+  normalised_exactly = by_number normalised_number normalised_carries normalised_of normalised_told r
 
-  pub normalised-carrying : (n x : ℕ) → normalisedNumber (normalisedOf n x) ≡ n → normalisedCarries (normalisedOf n x) ≡ x
-      → ((normalisedNumber a ≡ n) × (normalisedCarries a ≡ x)) ↔ Rule (normalisedOf n x)
-  normalised-carrying = by_both normalisedNumber normalisedCarries normalisedOf normalised-told r
+  pub normalised_carrying : (n x : ℕ) → normalised_number (normalised_of n x) ≡ n → normalised_carries (normalised_of n x) ≡ x
+      → ((normalised_number a ≡ n) × (normalised_carries a ≡ x)) ↔ Rule (normalised_of n x)
+  normalised_carrying = by_both normalised_number normalised_carries normalised_of normalised_told r
 
 -- The answer to a policy file, of a number and a value.
-abbrev pub acceptanceOf : ℕ → ℕ → Acceptance
-acceptanceOf n x =
+abbrev pub acceptance_of : ℕ → ℕ → Acceptance
+acceptance_of n x =
     cond (eqb n 5) Accepted
-    (cond (eqb n 22) (OverForm (directionOf x))
-    (RefusedFile (refusalOf n x)))
+    (cond (eqb n 22) (OverForm (direction_of x))
+    (RefusedFile (refusal_of n x)))
 
-acceptance-told : (a : Acceptance) → acceptanceOf (acceptanceNumber a) (acceptanceCarries a) ≡ a
-acceptance-told Accepted = refl
-acceptance-told (RefusedFile NotHeader) = refl
-acceptance-told (RefusedFile NotEnded) = refl
-acceptance-told (RefusedFile TooMany) = refl
-acceptance-told (RefusedFile (BadRow i)) = refl
-acceptance-told (OverForm Out) = refl
-acceptance-told (OverForm In) = refl
+acceptance_told : (a : Acceptance) → acceptance_of (acceptance_number a) (acceptance_carries a) ≡ a
+acceptance_told Accepted = refl
+acceptance_told (RefusedFile NotHeader) = refl
+acceptance_told (RefusedFile NotEnded) = refl
+acceptance_told (RefusedFile TooMany) = refl
+acceptance_told (RefusedFile (BadRow i)) = refl
+acceptance_told (OverForm Out) = refl
+acceptance_told (OverForm In) = refl
 
 module _ {Rule : Acceptance → Type 0} {a : Acceptance} (r : Ruled Rule a) where
-  pub acceptance-exactly : (n : ℕ) → acceptanceNumber (acceptanceOf n (acceptanceCarries a)) ≡ n
-      → (acceptanceNumber a ≡ n) ↔ Rule (acceptanceOf n (acceptanceCarries a))
-  acceptance-exactly = by_number acceptanceNumber acceptanceCarries acceptanceOf acceptance-told r
+  pub acceptance_exactly : (n : ℕ) → acceptance_number (acceptance_of n (acceptance_carries a)) ≡ n
+      → (acceptance_number a ≡ n) ↔ Rule (acceptance_of n (acceptance_carries a))
+  acceptance_exactly = by_number acceptance_number acceptance_carries acceptance_of acceptance_told r
 
-  pub acceptance-carrying : (n x : ℕ) → acceptanceNumber (acceptanceOf n x) ≡ n → acceptanceCarries (acceptanceOf n x) ≡ x
-      → ((acceptanceNumber a ≡ n) × (acceptanceCarries a ≡ x)) ↔ Rule (acceptanceOf n x)
-  acceptance-carrying = by_both acceptanceNumber acceptanceCarries acceptanceOf acceptance-told r
+  pub acceptance_carrying : (n x : ℕ) → acceptance_number (acceptance_of n x) ≡ n → acceptance_carries (acceptance_of n x) ≡ x
+      → ((acceptance_number a ≡ n) × (acceptance_carries a ≡ x)) ↔ Rule (acceptance_of n x)
+  acceptance_carrying = by_both acceptance_number acceptance_carries acceptance_of acceptance_told r

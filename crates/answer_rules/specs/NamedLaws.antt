@@ -12,17 +12,17 @@ use Rattle.answer_rules.specs.DecidesLaws.{Decides, holding, failing, decides_an
 
 -- A pair of that name.
 abbrev pub Named : ℕ → ℕ → Pair → Type 0
-Named protocol spi q = (q.protocol ≡ protocol) × (q.spiIn ≡ spi)
+Named protocol spi q = (q.protocol ≡ protocol) × (q.inbound_spi ≡ spi)
 
-named-decides : (protocol spi : ℕ) (q : Pair) → Decides (Named protocol spi q) (named protocol spi q)
-named-decides protocol spi q = decides_and (decides_eq q.protocol protocol) (decides_eq q.spiIn spi)
+named_decides : (protocol spi : ℕ) (q : Pair) → Decides (Named protocol spi q) (named protocol spi q)
+named_decides protocol spi q = decides_and (decides_eq q.protocol protocol) (decides_eq q.inbound_spi spi)
 
 -- The pair of a name is live exactly where one of the live pairs has that name.
 module _ (protocol spi : ℕ) where
-  pub live-iff : (pairs : List Pair) → (live protocol spi pairs ≡ true) ↔ ((q : Pair) × Memᴰ q pairs × Named protocol spi q)
+  pub live_iff : (pairs : List Pair) → (live protocol spi pairs ≡ true) ↔ ((q : Pair) × Memᴰ q pairs × Named protocol spi q)
   unfolding live
-  live-iff [] = (λ e. absurd (false≢true e), λ h. absurd (Memᴰ.not-nil h.1))
-  live-iff (r ∷ rs) = by (named-decides protocol spi r) (live-iff rs)
+  live_iff [] = (λ e. absurd (false≢true e), λ h. absurd (Memᴰ.not-nil h.1))
+  live_iff (r ∷ rs) = by (named_decides protocol spi r) (live_iff rs)
     where
       by : {b : Bool} → Decides (Named protocol spi r) b
           → ((live protocol spi rs ≡ true) ↔ ((q : Pair) × Memᴰ q rs × Named protocol spi q))
@@ -37,17 +37,17 @@ module _ (protocol spi : ℕ) where
 
 -- No two of the pairs have one name.
 abbrev pub NamesDiffer : List Pair → Type 0
-NamesDiffer pairs = (q r : Pair) → Memᴰ q pairs → Memᴰ r pairs → q.protocol ≡ r.protocol → q.spiIn ≡ r.spiIn → q ≡ r
+NamesDiffer pairs = (q r : Pair) → Memᴰ q pairs → Memᴰ r pairs → q.protocol ≡ r.protocol → q.inbound_spi ≡ r.inbound_spi → q ≡ r
 
 -- Values fit the pair of a name exactly where a live pair has that name and its ranges hold them.
 module _ (protocol spi : ℕ) (vs : List ℕ) where
-  pub fitting-iff : (pairs : List Pair) → NamesDiffer pairs
+  pub fitting_iff : (pairs : List Pair) → NamesDiffer pairs
       → (fitting protocol spi vs pairs ≡ true)
       ↔ ((q : Pair) × Memᴰ q pairs × Named protocol spi q × (holds q.ranges vs ≡ true))
   unfolding fitting
-  fitting-iff [] d = (λ e. absurd (false≢true e), λ h. absurd (Memᴰ.not-nil h.1))
-  fitting-iff (r ∷ rs) d =
-      by (named-decides protocol spi r) (fitting-iff rs (λ q p m l. d q p (Memᴰ.tail m) (Memᴰ.tail l)))
+  fitting_iff [] d = (λ e. absurd (false≢true e), λ h. absurd (Memᴰ.not-nil h.1))
+  fitting_iff (r ∷ rs) d =
+      by (named_decides protocol spi r) (fitting_iff rs (λ q p m l. d q p (Memᴰ.tail m) (Memᴰ.tail l)))
     where
       by : {b : Bool} → Decides (Named protocol spi r) b
           → ((fitting protocol spi vs rs ≡ true) ↔ ((q : Pair) × Memᴰ q rs × Named protocol spi q × (holds q.ranges vs ≡ true)))

@@ -1,19 +1,19 @@
 -- Document 01's conditions on packets, pairs and policy files, in its own terms. Assumes nothing: these are definitions.
 use Rattle.std.specs.Prelude.{ℕ, ◌-◌, ◌*◌, ◌/◌, ◌≤◌, ◌<◌, ◌≡◌, true, List, [], map, ◌⊎◌, ◌≢◌, length, get_or, take}
 use Rattle.std.proofs.Math.Option.{none, some}
-use Rattle.selectors.specs.Range.{absent, addressSize, protocolSize, portSize}
+use Rattle.selectors.specs.Range.{absent, address_size, protocol_size, port_size}
 use Rattle.selectors.specs.Value.{number}
 use Rattle.selectors.specs.declared.Direction.{Direction}
 use Rattle.selectors.specs.declared.Ends.{Ends}
-use Rattle.packet.specs.Header.{version, headerField, totalLength}
-use Rattle.packet.specs.Read.{triggerOf}
+use Rattle.packet.specs.Header.{version, header_field, total_length}
+use Rattle.packet.specs.Read.{trigger_of}
 use Rattle.packet.specs.declared.Packet.{Packet}
 use Rattle.sad.specs.declared.NewPair.{NewPair}
 use Rattle.policy.specs.Policy.{PolicyRow}
 use Rattle.policy_text.specs.Bytes.{lf}
 use Rattle.policy_text.specs.Format.{row_of}
 use Rattle.policy_text.specs.declared.Edition.{Edition}
-use Rattle.policy_text.specs.Editions.{format_of, rowCount, row_lines, parsePolicy}
+use Rattle.policy_text.specs.Editions.{format_of, row_count, row_lines, parse_policy}
 use Rattle.normal_form_file.specs.Normalise.{normalised}
 use Rattle.normal_form_file.specs.declared.Normalised.{Normalised}
 use Rattle.acceptance.specs.Spd.{accepting}
@@ -24,54 +24,54 @@ use Rattle.acceptance.specs.declared.Acceptance.{Acceptance}
 pub record ReadablePacket (p : List ℕ) : Type 0 where
   pub bytes : 20 ≤ length p
   pub version-4 : version p ≡ 4
-  pub header-5 : 5 ≤ headerField p
-  pub header-within : 4 * headerField p ≤ totalLength p
-  pub total-lent : totalLength p ≤ length p
+  pub header-5 : 5 ≤ header_field p
+  pub header_within : 4 * header_field p ≤ total_length p
+  pub total_lent : total_length p ≤ length p
 
 -- The triggering header 'is read like a packet and its header must be there whole, but its total length may exceed the bytes there'.
 pub record ReadableHeader (p : List ℕ) : Type 0 where
   pub bytes : 20 ≤ length p
   pub version-4 : version p ≡ 4
-  pub header-5 : 5 ≤ headerField p
-  pub header-within : 4 * headerField p ≤ totalLength p
-  pub header-whole : 4 * headerField p ≤ length p
+  pub header-5 : 5 ≤ header_field p
+  pub header_within : 4 * header_field p ≤ total_length p
+  pub header_whole : 4 * header_field p ≤ length p
 
 -- The protocol of a packet that was read, and its destination where it is coming in: 'coming in, local is the destination'.
-abbrev pub protocolOf : Packet → ℕ
-protocolOf k = number k.selectors.protocol
+abbrev pub protocol_of : Packet → ℕ
+protocol_of k = number k.selectors.protocol
 
-abbrev pub destinationOf : Packet → ℕ
-destinationOf k = number k.selectors.local
+abbrev pub destination_of : Packet → ℕ
+destination_of k = number k.selectors.local
 
 -- 'If the destination is the gateway and the protocol 50 or 51'.
 abbrev pub ForGateway : ℕ → Packet → Type 0
-ForGateway address k = (destinationOf k ≡ address) × ((protocolOf k ≡ 50) ⊎ (protocolOf k ≡ 51))
+ForGateway address k = (destination_of k ≡ address) × ((protocol_of k ≡ 50) ⊎ (protocol_of k ≡ 51))
 
 -- 'A fragment (offset not 0, or more-fragments set)'.
 abbrev pub Fragment : Packet → Type 0
 Fragment k = (k.offset ≢ 0) ⊎ (k.more_fragments ≡ true)
 
 -- 'An upper part under 8 bytes for ESP or 12 for AH'.
-abbrev pub upperBytes : Packet → ℕ
-upperBytes k = k.end - k.upper
+abbrev pub upper_bytes : Packet → ℕ
+upper_bytes k = k.end - k.upper
 
 abbrev pub TooShort : Packet → Type 0
-TooShort k = ((protocolOf k ≡ 50) × (upperBytes k < 8)) ⊎ ((protocolOf k ≡ 51) × (upperBytes k < 12))
+TooShort k = ((protocol_of k ≡ 50) × (upper_bytes k < 8)) ⊎ ((protocol_of k ≡ 51) × (upper_bytes k < 12))
 
 -- 'ICMP with a seen type 3, 4, 5, 11 or 12 (the error messages of RFC 1122)'. ICMP's local port is type * 256 + code, and is not absent
 -- where the type is seen.
-abbrev pub typeAndCode : Packet → ℕ
-typeAndCode k = number k.selectors.local_port
+abbrev pub type_and_code : Packet → ℕ
+type_and_code k = number k.selectors.local_port
 
 abbrev pub ErrorType : ℕ → Type 0
 ErrorType t = (t ≡ 3) ⊎ (t ≡ 4) ⊎ (t ≡ 5) ⊎ (t ≡ 11) ⊎ (t ≡ 12)
 
 abbrev pub IcmpError : Packet → Type 0
-IcmpError k = (protocolOf k ≡ 1) × (typeAndCode k ≢ absent) × ErrorType (typeAndCode k / 256)
+IcmpError k = (protocol_of k ≡ 1) × (type_and_code k ≢ absent) × ErrorType (type_and_code k / 256)
 
 -- The triggering header that a packet returns: it 'starts 8 bytes into the upper part … to the upper part's end'.
 abbrev pub returned : List ℕ → Packet → List ℕ
-returned p k = triggerOf p k.upper k.end
+returned p k = trigger_of p k.upper k.end
 
 -- 'Either SPI below 256.'
 abbrev pub LowSpi : NewPair → Type 0
@@ -89,11 +89,11 @@ BadRange size e = (size ≤ number e.low) ⊎ (size ≤ number e.high) ⊎ (numb
 
 abbrev pub SomeBadRange : NewPair → Type 0
 SomeBadRange q =
-    BadRange addressSize q.ranges.local
-    ⊎ BadRange addressSize q.ranges.remote
-    ⊎ BadRange protocolSize q.ranges.protocol
-    ⊎ BadRange portSize q.ranges.local_port
-    ⊎ BadRange portSize q.ranges.remote_port
+    BadRange address_size q.ranges.local
+    ⊎ BadRange address_size q.ranges.remote
+    ⊎ BadRange protocol_size q.ranges.protocol
+    ⊎ BadRange port_size q.ranges.local_port
+    ⊎ BadRange port_size q.ranges.remote_port
 
 abbrev pub BadPair : NewPair → Type 0
 BadPair q = NotIpsec q ⊎ BadNumber q ⊎ SomeBadRange q
@@ -109,24 +109,24 @@ abbrev pub EndsInLf : List ℕ → Type 0
 EndsInLf s = get_or s (length s - 1) 0 ≡ lf
 
 -- The text of the row i, 'first row 1'.
-abbrev pub rowText : Edition → List ℕ → ℕ → List ℕ
-rowText e s i = get_or (row_lines e s) (i - 1) []
+abbrev pub row_text : Edition → List ℕ → ℕ → List ℕ
+row_text e s i = get_or (row_lines e s) (i - 1) []
 
 -- 'Bad row: its number, first row 1', of the first bad row: it is no row, and each before it is one.
 pub record FirstBadRow (e : Edition) (s : List ℕ) (i : ℕ) : Type 0 where
   pub from-1 : 1 ≤ i
-  pub there : i ≤ rowCount e s
-  pub is-bad : row_of (format_of e) (rowText e s i) ≡ none
-  pub good-before : (j : ℕ) → 1 ≤ j → j < i → (r : PolicyRow) × (row_of (format_of e) (rowText e s j) ≡ some r)
+  pub there : i ≤ row_count e s
+  pub is_bad : row_of (format_of e) (row_text e s i) ≡ none
+  pub good-before : (j : ℕ) → 1 ≤ j → j < i → (r : PolicyRow) × (row_of (format_of e) (row_text e s j) ≡ some r)
 
 -- Every line is a row, and these are the rows.
 abbrev pub RowsAre : Edition → List ℕ → List PolicyRow → Type 0
 RowsAre e s rs = map (row_of (format_of e)) (row_lines e s) ≡ map some rs
 
 -- What normalising a file for one direction answers, with room for that many bytes.
-abbrev pub normalisedFile : ℕ → Direction → ℕ → List ℕ → Normalised
-normalisedFile limit d room s = normalised limit d room (parsePolicy limit s)
+abbrev pub normalised_file : ℕ → Direction → ℕ → List ℕ → Normalised
+normalised_file limit d room s = normalised limit d room (parse_policy limit s)
 
 -- What a policy file is answered with.
-abbrev pub acceptedFile : ℕ → List ℕ → Acceptance
-acceptedFile limit s = accepting limit (parsePolicy limit s)
+abbrev pub accepted_file : ℕ → List ℕ → Acceptance
+accepted_file limit s = accepting limit (parse_policy limit s)

@@ -37,9 +37,9 @@ use denote.Triple.Spec.{Meets, triple_of}
 use denote.Triple.Walked.{says, Stays, stay_ref, stay_none_ref, stay_none_slice, walk_of, AllGo, Goes-none_ref, Goes-none_slice, Goes-ref, Walks, ends_at, walked, walk_Meets}
 use denote.Triple.Clauses.{Clauses, ensured, lasts, closing}
 use denote.Exit.{yes}
-use Rattle.policy.specs.Words.{rowLimit}
-use Rattle.sad.specs.Pairs.{tableWords}
-use Rattle.spd.specs.Words.{spdSize}
+use Rattle.policy.specs.Words.{row_limit}
+use Rattle.sad.specs.Pairs.{table_words}
+use Rattle.spd.specs.Words.{spd_size}
 use Rattle.spd_cache.specs.declared.Cache.{Cache}
 use Rattle.gateway.specs.declared.Answered.{Answered}
 use Rattle.spd_cache.specs.contracts.Cache as T
@@ -49,7 +49,7 @@ use Rattle.verdicts.proofs.Verdict.TheLaws as Vd'
 use Rattle.gateway.specs.contracts.Answered as L
 use Rattle.gateway.proofs.Answered.TheLaws as L'
 use Rattle.gateway.specs.contracts.outbound as g
-use Rattle.cache_record.proofs.Lent.{vals, IsCache, cache-typed, Place, Says, opens-cache, closes-cache}
+use Rattle.cache_record.proofs.Lent.{vals, IsCache, cache_typed, Place, Says, opens_cache, closes_cache}
 use Rattle.cache_record.specs.contracts.outbound as f
 
 -- the MIR of a thin function over the call k
@@ -60,8 +60,8 @@ function k = record {
   params = 4;
   locals =
       local Vd'.mir value_local
-      ∷ local (ty_ref (named 0) imm (ty_array (ty_int w64) (spdSize rowLimit))) value_local
-      ∷ local (ty_ref (named 1) imm (ty_array (ty_int w64) tableWords)) value_local
+      ∷ local (ty_ref (named 0) imm (ty_array (ty_int w64) (spd_size row_limit))) value_local
+      ∷ local (ty_ref (named 1) imm (ty_array (ty_int w64) table_words)) value_local
       ∷ local (ty_ref (named 2) mut (pointee (T.the_row).written)) value_local
       ∷ local (slice_ty (ty_ref (named 3) imm (ty_int w8))) value_local
       ∷ local L'.mir value_local
@@ -81,9 +81,9 @@ words n = ArrayOf (plain (λ _. u64)) (λ _. tt) n
 
 abbrev stayed : Stays (f.ended).signature.params (f.ended).kept
 stayed = (
-  stay_none_ref (0 ∷ []) tt (words (spdSize rowLimit)) yes,
+  stay_none_ref (0 ∷ []) tt (words (spd_size row_limit)) yes,
   (
-    stay_none_ref (1 ∷ []) tt (words tableWords) yes,
+    stay_none_ref (1 ∷ []) tt (words table_words) yes,
     (
       stay_ref (2 ∷ []) tt (plain (λ _. T.the_row)),
       (stay_none_slice (3 ∷ []) tt (plain (λ _. u8)) yes, tt),
@@ -135,13 +135,13 @@ module _ (answer : Call) (#g : Name) where
 
     -- what the other parameters own, and that it is had twice
     abbrev Rs : List RattleType
-    Rs = ShrRef (named 0) κ₀ (Array u64 tt (spdSize rowLimit)) ∷ ShrRef (named 1) κ₁ (Array u64 tt tableWords) ∷ ShrSlice (named 3) κ₃ u8 ∷ []
+    Rs = ShrRef (named 0) κ₀ (Array u64 tt (spd_size row_limit)) ∷ ShrRef (named 1) κ₁ (Array u64 tt table_words) ∷ ShrSlice (named 3) κ₃ u8 ∷ []
 
     abbrev Own : Fml
     Own = owns Rs (policy, (table, (bytes, tt))) (shr_vals policy, (shr_vals table, (shr_slice_vals bytes, tt)))
 
     twice : ent 𝓤 (sem 𝓛 Own) (sep 𝓤 (sem 𝓛 Own) (sem 𝓛 Own))
-    twice = twices 𝓛 Rs (shr_copy 𝓛 (named 0) κ₀ (Array u64 tt (spdSize rowLimit)), (shr_copy 𝓛 (named 1) κ₁ (Array u64 tt tableWords), (shr_slice_copy 𝓛 (named 3) κ₃ u8, tt))) (policy, (table, (bytes, tt))) (shr_vals policy, (shr_vals table, (shr_slice_vals bytes, tt)))
+    twice = twices 𝓛 Rs (shr_copy 𝓛 (named 0) κ₀ (Array u64 tt (spd_size row_limit)), (shr_copy 𝓛 (named 1) κ₁ (Array u64 tt table_words), (shr_slice_copy 𝓛 (named 3) κ₃ u8, tt))) (policy, (table, (bytes, tt))) (shr_vals policy, (shr_vals table, (shr_slice_vals bytes, tt)))
 
     abbrev Tokens : Item 𝓤
     Tokens = ‵ (flft κ₀ q₀) ⊛ ‵ (flft κ₁ q₁) ⊛ ‵ (flft κ₃ q₃) ⊛ ‵ ftrue
@@ -180,7 +180,7 @@ module _ (answer : Call) (#g : Name) where
     module _ (C : Calls 𝓤 H) (Λ : Loops 𝓤 H) (fm : FmC 𝓤 H 𝓛.laws C) (known : Triple 𝓤 (C #g) (Core answer 𝓤 𝓛)) (room : Room u8 (length bytes.now)) where
       walk : ent 𝓤 (on_entry 𝓛 f.signature (κ₀, (κ₁, (κ, (κ₃, tt)))) (q₀, (q₁, (q, (q₃, tt)))) x at) (WpFn 𝓤 H C Λ (function #g) (vptr policy.ptr.0 policy.ptr.1 ∷ vptr table.ptr.0 table.ptr.1 ∷ vptr b o ∷ slice_val bytes.ref_ptr (length bytes.now) ∷ []) Post)
       walk =
-          qed 𝓛 ((‵ (flft κ₀ q₀) ⊛ ‵ (flft κ₁ q₁) ⊛ ‵ (flft κ q) ⊛ ‵ (flft κ₃ q₃) ⊛ ‵ ftrue) ∷ ‵ (owns (ShrRef (named 0) κ₀ (Array u64 tt (spdSize rowLimit)) ∷ ShrRef (named 1) κ₁ (Array u64 tt tableWords) ∷ MutRef (named 2) κ T.the_row ∷ ShrSlice (named 3) κ₃ u8 ∷ []) x at) ∷ []) ∵
+          qed 𝓛 ((‵ (flft κ₀ q₀) ⊛ ‵ (flft κ₁ q₁) ⊛ ‵ (flft κ q) ⊛ ‵ (flft κ₃ q₃) ⊛ ‵ ftrue) ∷ ‵ (owns (ShrRef (named 0) κ₀ (Array u64 tt (spd_size row_limit)) ∷ ShrRef (named 1) κ₁ (Array u64 tt table_words) ∷ MutRef (named 2) κ T.the_row ∷ ShrSlice (named 3) κ₃ u8 ∷ []) x at) ∷ []) ∵
           -- what is owned is taken apart: one copy of what the others own goes to the callee, with the tokens, and one is kept
           split ! $ move ! (1 ∷ []) $ split ! $ move ! (1 ∷ []) $ split ! $ move ! (2 ∷ 1 ∷ []) $ join ! $ move ! (2 ∷ 0 ∷ []) $ join ! $
           -- [the others' tokens; κ's; what the four own]
@@ -190,9 +190,9 @@ module _ (answer : Call) (#g : Name) where
           alloc1 ! (λ l₀. alloc1 ! (λ l₁. alloc1 ! (λ l₂. alloc1 ! (λ l₃. alloc1 ! (λ l₄. alloc1 ! (λ l₅. alloc1 ! (λ l₆. alloc0 ! $ params1 ! $
           pass1 ! (init ! 10 refl (tt, tt)) $ pass1 ! (init ! 8 refl (tt, tt)) $ pass1 ! (init ! 6 refl (tt, tt)) $ pass1 ! (init ! 4 refl (tt, (tt, (record { fits = room.0 }, tt)))) $ pass0 ! $
           -- [_6; …; _5; …; _4; …; _3; …; _2; …; _1; …; _0; …; the others; the others; obs; the borrow; κ's token; the others' tokens]: the borrow is opened
-          move ! (16 ∷ 17 ∷ 18 ∷ []) $ opens-cache ! tt h b o (λ was.
+          move ! (16 ∷ 17 ∷ 18 ∷ []) $ opens_cache ! tt h b o (λ was.
           -- [the record's cell; what a Cache owns; the open borrow; obs; auth; _6; …; _5; …; _4; …; _3; …; _2; …; _1; …; _0; …; the others; the others; their tokens]
-          assigns ! (of_opd ! (load ! (from ! (hop ! (look ! 11 refl) (stop !))) (look_raw ! 0 refl))) (from ! (stop !)) (init ! 5 refl (cache-typed 𝓛 h was)) $
+          assigns ! (of_opd ! (load ! (from ! (hop ! (look ! 11 refl) (stop !))) (look_raw ! 0 refl))) (from ! (stop !)) (init ! 5 refl (cache_typed 𝓛 h was)) $
           -- the call
           move ! (1 ∷ 19 ∷ 21 ∷ []) $ use3 𝓛 (raw ((Core answer 𝓤 𝓛).pre to)) asked $
           calls_at ! fm (Core answer 𝓤 𝓛) known to (and_then ! (load ! (from ! (stop !)) (look ! 15 refl)) (and_then ! (load ! (from ! (stop !)) (look ! 13 refl)) (and_then ! (load ! (from ! (stop !)) (look ! 5 refl)) (and_then ! (load ! (from ! (stop !)) (look ! 9 refl)) (no_more !))))) (λ u.
@@ -201,10 +201,10 @@ module _ (answer : Call) (#g : Name) where
           peeks ! L.the_row (Is L.the_row) (shows 𝓛 L.the_row) r (u ∷ []) (λ is.
           land ! (from ! (stop !)) (init ! 8 refl ((LL.lawful L.the_type L'.the_laws 𝓛).typed r _ is).0) $ rewrite ! 8 (λ (w : Val). ‵ (fat full_share L'.mir l₅ 0 w)) (ap only (LL.tells L.the_type L'.the_laws r _ is)) refl $ drop ! $
           -- [the others' tokens; the record's cell; the open borrow; obs; auth; _6; …; _5; …; _4; …; _3; …; _2; …; _1; …; _0; …; the others]
-          assigns ! (of_opd ! (load ! (from ! (fld ! refl (stop !))) (look_in ! 7 (sub ! 1 refl (whole !))))) (from ! (hop ! (look ! 11 refl) (stop !))) (store_raw ! 1 refl (cache-typed 𝓛 r.cache (cache-of r _ is))) $
+          assigns ! (of_opd ! (load ! (from ! (fld ! refl (stop !))) (look_in ! 7 (sub ! 1 refl (whole !))))) (from ! (hop ! (look ! 11 refl) (stop !))) (store_raw ! 1 refl (cache_typed 𝓛 r.cache (cache-of r _ is))) $
           assigns ! (of_opd ! (load ! (from ! (fld ! refl (stop !))) (look_in ! 7 (sub ! 0 refl (whole !))))) (from ! (stop !)) (init ! 17 refl ((EL.lawful Vd.the_type Vd'.the_laws 𝓛 tt).typed r.verdict _ (verdict-of r _ is)).0) $
           -- the borrow is closed at the new record
-          move ! (1 ∷ 2 ∷ 3 ∷ 4 ∷ []) $ closes-cache ! tt r.cache b o (cache-of r _ is) $
+          move ! (1 ∷ 2 ∷ 3 ∷ 4 ∷ []) $ closes_cache ! tt r.cache b o (cache-of r _ is) $
           -- [obs; the borrow; κ's token; the others'; _6; …; _5; …; _4; …; _3; …; _2; …; _1; …; _0; …; the others]
           returns ! (look ! 16 refl) $ forget ! 4 refl $ forget ! 6 refl $ forget ! 8 refl $ forget ! 10 refl $ forget ! 12 refl $ forget ! 14 refl $ forget ! 16 refl $
           move ! (16 ∷ 17 ∷ []) $ free1 ! $ move ! (14 ∷ 15 ∷ []) $ free1 ! $ move ! (12 ∷ 13 ∷ []) $ free1 ! $ move ! (10 ∷ 11 ∷ []) $ free1 ! $ move ! (8 ∷ 9 ∷ []) $ free1 ! $ move ! (6 ∷ 7 ∷ []) $ free1 ! $ move ! (4 ∷ 5 ∷ []) $ free1 ! $ free0 ! $
@@ -216,11 +216,11 @@ module _ (answer : Call) (#g : Name) where
     walks : (C : Calls 𝓤 H) (Λ : Loops 𝓤 H) → FmC 𝓤 H 𝓛.laws C → Triple 𝓤 (C #g) (Core answer 𝓤 𝓛) → Walks 𝓛 f.ended stayed (WpFn 𝓤 H C Λ (function #g)) (in_place answer 𝓤)
     walks C Λ fm known = walked 𝓛 f.ended stayed (in_place answer 𝓤) (WpFn 𝓤 H C Λ (function #g))
         (λ κs. (shr_vals, (shr_vals, (shr_vals, (shr_slice_vals, tt)))))
-        (λ κs. (shr_Tells (named 0) κs.0 (Array u64 tt (spdSize rowLimit)), (shr_Tells (named 1) κs.1.0 (Array u64 tt tableWords), (mut_Tells (named 2) κs.1.1.0 T.the_row, (shr_slice_Tells (named 3) κs.1.1.1.0 u8, tt)))))
+        (λ κs. (shr_Tells (named 0) κs.0 (Array u64 tt (spd_size row_limit)), (shr_Tells (named 1) κs.1.0 (Array u64 tt table_words), (mut_Tells (named 2) κs.1.1.0 T.the_row, (shr_slice_Tells (named 3) κs.1.1.1.0 u8, tt)))))
         (λ κs qs bounds a _ are. via 𝓤 _ (fst∗ 𝓤 _ (emp 𝓤)) (walk 𝓛 κs.0 κs.1.0 κs.1.1.0 κs.1.1.1.0 qs.0 qs.1.0 qs.1.1.0 qs.1.1.1.0 bounds a.1.1.0.ref_ptr.0 a.1.1.0.ref_ptr.1 a.1.1.0.ghost_name a.1.1.0.now a.0 a.1.0 a.1.1.1.0 C Λ fm known are.1.1.1.0.0.1))
 
     goes : AllGo 𝓛 4 (f.signature).params (f.ended).kept stayed
-    goes = (Goes-none_ref 𝓛 4 (0 ∷ []) tt (words (spdSize rowLimit)) yes, (Goes-none_ref 𝓛 4 (1 ∷ []) tt (words tableWords) yes, (Goes-ref 𝓛 4 2 tt (plain (λ _. T.the_row)), (Goes-none_slice 𝓛 4 (3 ∷ []) tt (plain (λ _. u8)) yes, tt))))
+    goes = (Goes-none_ref 𝓛 4 (0 ∷ []) tt (words (spd_size row_limit)) yes, (Goes-none_ref 𝓛 4 (1 ∷ []) tt (words table_words) yes, (Goes-ref 𝓛 4 2 tt (plain (λ _. T.the_row)), (Goes-none_slice 𝓛 4 (3 ∷ []) tt (plain (λ _. u8)) yes, tt))))
 
     pub meets : (𝓣 : Tables 𝓤 H) → Triple 𝓤 (𝓣.C #g) (Core answer 𝓤 𝓛) → Meets 𝓛 f.signature (WpFn 𝓤 H 𝓣.C 𝓣.Λ (function #g)) (closing 𝓛 f.ended (in_place answer 𝓤))
     meets 𝓣 known = walk_Meets 𝓛 f.ended stayed goes (in_place answer 𝓤) (WpFn 𝓤 H 𝓣.C 𝓣.Λ (function #g)) (WpFn-mono 𝓤 H 𝓛.laws 𝓣 (function #g)) (walks 𝓣.C 𝓣.Λ (fm_of 𝓤 H 𝓛.laws 𝓣) known)

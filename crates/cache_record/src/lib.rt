@@ -2,10 +2,10 @@
 ghost use Rattle.std.specs.Prelude.{◌≡◌};
 ghost use Rattle.selectors.specs.Value.{combination};
 ghost use Rattle.sad.specs.Pairs.{pairs};
-ghost use Rattle.policy.specs.Words.{rowLimit};
+ghost use Rattle.policy.specs.Words.{row_limit};
 ghost use Rattle.spd.specs.Words.{rows_of, address_of};
-ghost use Rattle.spd_cache.specs.Cache.{lookedUp};
-ghost use Rattle.gateway.specs.Cached.{outboundCached, inboundCached};
+ghost use Rattle.spd_cache.specs.Cache.{looked_up};
+ghost use Rattle.gateway.specs.Cached.{outbound_cached, inbound_cached};
 
 use policy::Action;
 use sad::TABLE_WORDS;
@@ -15,7 +15,7 @@ use spd_cache::Cache;
 use verdicts::Verdict;
 
 pub fn lookup(cache: &mut Cache, rows: &[u64], direction: Direction, selectors: Selectors) -> Action
-    ensures { (result ≡ (lookedUp cache.old rows.now direction (combination selectors)).action) × (cache.new ≡ (lookedUp cache.old rows.now direction (combination selectors)).cache) }
+    ensures { (result ≡ (looked_up cache.old rows.now direction (combination selectors)).action) × (cache.new ≡ (looked_up cache.old rows.now direction (combination selectors)).cache) }
 {
     let looked = (*cache).lookup(rows, direction, selectors);
     *cache = looked.cache;
@@ -29,7 +29,7 @@ pub fn outbound(
     cache: &mut Cache,
     bytes: &[u8],
 ) -> Verdict
-    ensures { (result ≡ (outboundCached cache.old (rows_of rowLimit policy.now Direction.Out) (pairs table.now) bytes.now).verdict) × (cache.new ≡ (outboundCached cache.old (rows_of rowLimit policy.now Direction.Out) (pairs table.now) bytes.now).cache) }
+    ensures { (result ≡ (outbound_cached cache.old (rows_of row_limit policy.now Direction.Out) (pairs table.now) bytes.now).verdict) × (cache.new ≡ (outbound_cached cache.old (rows_of row_limit policy.now Direction.Out) (pairs table.now) bytes.now).cache) }
 {
     let answered = gateway::outbound(policy, table, *cache, bytes);
     *cache = answered.cache;
@@ -43,7 +43,7 @@ pub fn inbound(
     cache: &mut Cache,
     bytes: &[u8],
 ) -> Verdict
-    ensures { (result ≡ (inboundCached cache.old (rows_of rowLimit policy.now Direction.In) (address_of policy.now) (pairs table.now) bytes.now).verdict) × (cache.new ≡ (inboundCached cache.old (rows_of rowLimit policy.now Direction.In) (address_of policy.now) (pairs table.now) bytes.now).cache) }
+    ensures { (result ≡ (inbound_cached cache.old (rows_of row_limit policy.now Direction.In) (address_of policy.now) (pairs table.now) bytes.now).verdict) × (cache.new ≡ (inbound_cached cache.old (rows_of row_limit policy.now Direction.In) (address_of policy.now) (pairs table.now) bytes.now).cache) }
 {
     let answered = gateway::inbound(policy, table, *cache, bytes);
     *cache = answered.cache;

@@ -8,12 +8,12 @@ use Rattle.std.proofs.Math.Bool.{false≢true}
 use Rattle.std.proofs.Math.Logic.{⊎_elim}
 use borrow.Author.Tests.{ltb-true, ltb-false}
 use Rattle.selectors.specs.Range.{Range, range, contains, holds}
-use Rattle.selectors.specs.RangeLaws.{both_true, contains-in, contains-below, contains-above, contains-between}
+use Rattle.selectors.specs.RangeLaws.{both_true, contains_in, contains_below, contains_above, contains_between}
 use Rattle.selectors.specs.Value.{number}
-use Rattle.selectors.specs.Words.{fieldCount, rangeWords, rangesWords, value_at, ends_at, rangeAt}
+use Rattle.selectors.specs.Words.{field_count, range_words, ranges_words, value_at, ends_at, range_at}
 use Rattle.selectors.specs.declared.Ends.{Ends}
-use Rattle.cover.specs.Boxes.{rangesWord, rangesBehind, InBox, row_of, table_of, codeHolds, Lowered, Raised, Part, Common, Apart, Covers, RowsApart, RangeApart, RangeCovers, FieldStand, BoxStand, Covered, Surveyed}
-use Rattle.cover.specs.RangesLaws.{ranges-length, range-of, written, value-own, value-other}
+use Rattle.cover.specs.Boxes.{ranges_word, ranges_behind, InBox, row_of, table_of, code_holds, Lowered, Raised, Part, Common, Apart, Covers, RowsApart, RangeApart, RangeCovers, FieldStand, BoxStand, Covered, Surveyed}
+use Rattle.cover.specs.RangesLaws.{ranges-length, range-of, written, value_own, value_other}
 use Rattle.cover.specs.declared.Stand.{Stand}
 
 -- Ranges hold values where each one holds its own.
@@ -24,70 +24,70 @@ holds-length [] (v ∷ us) e = absurd (false≢true e)
 holds-length (r ∷ rs) [] e = absurd (false≢true e)
 holds-length (r ∷ rs) (v ∷ us) e = ap suc (holds-length rs us (both_true (contains r v) _ e).1)
 
-holds-each : (rs : List Range) (us : List ℕ) (z : Range) → holds rs us ≡ true → (k : ℕ) → k < length rs → contains (slice_index_or rs k z) (slice_index us k) ≡ true
+holds_each : (rs : List Range) (us : List ℕ) (z : Range) → holds rs us ≡ true → (k : ℕ) → k < length rs → contains (slice_index_or rs k z) (slice_index us k) ≡ true
 unfolding holds
-holds-each [] us z e k h = absurd (omega arith)
-holds-each (r ∷ rs) [] z e k h = absurd (false≢true e)
-holds-each (r ∷ rs) (v ∷ us) z e zero h = (both_true (contains r v) _ e).0
-holds-each (r ∷ rs) (v ∷ us) z e (suc k) h = holds-each rs us z (both_true (contains r v) _ e).1 k (omega arith)
+holds_each [] us z e k h = absurd (omega arith)
+holds_each (r ∷ rs) [] z e k h = absurd (false≢true e)
+holds_each (r ∷ rs) (v ∷ us) z e zero h = (both_true (contains r v) _ e).0
+holds_each (r ∷ rs) (v ∷ us) z e (suc k) h = holds_each rs us z (both_true (contains r v) _ e).1 k (omega arith)
 
-holds-all : (rs : List Range) (us : List ℕ) (z : Range) → length us ≡ length rs → ((k : ℕ) → k < length rs → contains (slice_index_or rs k z) (slice_index us k) ≡ true)
+holds_all : (rs : List Range) (us : List ℕ) (z : Range) → length us ≡ length rs → ((k : ℕ) → k < length rs → contains (slice_index_or rs k z) (slice_index us k) ≡ true)
     → holds rs us ≡ true
 unfolding holds
-holds-all [] [] z e t = refl
-holds-all [] (v ∷ us) z e t = absurd (omega arith)
-holds-all (r ∷ rs) [] z e t = absurd (omega arith)
-holds-all (r ∷ rs) (v ∷ us) z e t = rw (t 0 (omega arith)) (holds-all rs us z (omega arith) (λ k h. t (suc k) (omega arith)))
+holds_all [] [] z e t = refl
+holds_all [] (v ∷ us) z e t = absurd (omega arith)
+holds_all (r ∷ rs) [] z e t = absurd (omega arith)
+holds_all (r ∷ rs) (v ∷ us) z e t = rw (t 0 (omega arith)) (holds_all rs us z (omega arith) (λ k h. t (suc k) (omega arith)))
 
 abbrev nothing : Range
 nothing = range 0 0
 
 -- The ranges at a word, from the field f on, hold values: in the field g, in all of these fields, not in one.
 abbrev HeldIn : List ℕ → ℕ → ℕ → ℕ → List ℕ → Type 0
-HeldIn ws at f g us = contains (rangeAt ws (at + rangeWords * g)) (slice_index us (g - f)) ≡ true
+HeldIn ws at f g us = contains (range_at ws (at + range_words * g)) (slice_index us (g - f)) ≡ true
 
 module _ (ws : List ℕ) (at f : ℕ) (us : List ℕ) where
-  field-held : holds (rangesBehind ws at f) us ≡ true → (g : ℕ) → f ≤ g → g < fieldCount → HeldIn ws at f g us
-  field-held e g l h =
+  field_held : holds (ranges_behind ws at f) us ≡ true → (g : ℕ) → f ≤ g → g < field_count → HeldIn ws at f g us
+  field_held e g l h =
       let k : f + (g - f) ≡ g = omega arith in
-      rw (range-of ws at f (fieldCount - f) (g - f) (omega arith), k) at (holds-each (rangesBehind ws at f) us nothing e (g - f) (rw ranges-length (omega arith)))
+      rw (range-of ws at f (field_count - f) (g - f) (omega arith), k) at (holds_each (ranges_behind ws at f) us nothing e (g - f) (rw ranges-length (omega arith)))
 
-  fields-hold : length us ≡ fieldCount - f → ((g : ℕ) → f ≤ g → g < fieldCount → HeldIn ws at f g us) → holds (rangesBehind ws at f) us ≡ true
-  fields-hold e t = holds-all (rangesBehind ws at f) us nothing (e ∙ sym (ranges-length ws at f (fieldCount - f))) each
+  fields_hold : length us ≡ field_count - f → ((g : ℕ) → f ≤ g → g < field_count → HeldIn ws at f g us) → holds (ranges_behind ws at f) us ≡ true
+  fields_hold e t = holds_all (ranges_behind ws at f) us nothing (e ∙ sym (ranges-length ws at f (field_count - f))) each
     where
-      each : (k : ℕ) → k < length (rangesBehind ws at f) → contains (slice_index_or (rangesBehind ws at f) k nothing) (slice_index us k) ≡ true
+      each : (k : ℕ) → k < length (ranges_behind ws at f) → contains (slice_index_or (ranges_behind ws at f) k nothing) (slice_index us k) ≡ true
       each k h =
-          let l : f + k < fieldCount = omega (arith, ranges-length ws at f (fieldCount - f)) in
+          let l : f + k < field_count = omega (arith, ranges-length ws at f (field_count - f)) in
           let m : f + k - f ≡ k = omega arith in
-          rw (range-of ws at f (fieldCount - f) k (omega arith)) (rw m at (t (f + k) (omega arith) l))
+          rw (range-of ws at f (field_count - f) k (omega arith)) (rw m at (t (f + k) (omega arith) l))
 
-  field-missed : (g : ℕ) → f ≤ g → g < fieldCount → contains (rangeAt ws (at + rangeWords * g)) (slice_index us (g - f)) ≡ false → holds (rangesBehind ws at f) us ≡ false
-  field-missed g l h e = by (holds (rangesBehind ws at f) us) refl
+  field-missed : (g : ℕ) → f ≤ g → g < field_count → contains (range_at ws (at + range_words * g)) (slice_index us (g - f)) ≡ false → holds (ranges_behind ws at f) us ≡ false
+  field-missed g l h e = by (holds (ranges_behind ws at f) us) refl
     where
-      by : (b : Bool) → holds (rangesBehind ws at f) us ≡ b → holds (rangesBehind ws at f) us ≡ false
-      by true t = absurd (false≢true (sym e ∙ field-held t g l h))
+      by : (b : Bool) → holds (ranges_behind ws at f) us ≡ b → holds (ranges_behind ws at f) us ≡ false
+      by true t = absurd (false≢true (sym e ∙ field_held t g l h))
       by false t = t
 
 -- The same of a box, whose words begin at 0.
-box-length : (bs : List ℕ) (f : ℕ) (us : List ℕ) → InBox f bs us → length us ≡ fieldCount - f
-box-length bs f us e = holds-length (rangesBehind bs 0 f) us e ∙ ranges-length bs 0 f (fieldCount - f)
+box-length : (bs : List ℕ) (f : ℕ) (us : List ℕ) → InBox f bs us → length us ≡ field_count - f
+box-length bs f us e = holds-length (ranges_behind bs 0 f) us e ∙ ranges-length bs 0 f (field_count - f)
 
-box-held : (bs : List ℕ) (f : ℕ) (us : List ℕ) → InBox f bs us → (g : ℕ) → f ≤ g → g < fieldCount → contains (rangeAt bs (rangeWords * g)) (slice_index us (g - f)) ≡ true
-box-held bs f us e g l h = simp zero-add at (field-held bs 0 f us e g l h)
+box_held : (bs : List ℕ) (f : ℕ) (us : List ℕ) → InBox f bs us → (g : ℕ) → f ≤ g → g < field_count → contains (range_at bs (range_words * g)) (slice_index us (g - f)) ≡ true
+box_held bs f us e g l h = simp zero-add at (field_held bs 0 f us e g l h)
 
-box-holds : (bs : List ℕ) (f : ℕ) (us : List ℕ) → length us ≡ fieldCount - f → ((g : ℕ) → f ≤ g → g < fieldCount → contains (rangeAt bs (rangeWords * g)) (slice_index us (g - f)) ≡ true) → InBox f bs us
-box-holds bs f us e t = fields-hold bs 0 f us e (λ g l h. simp zero-add (t g l h))
+box-holds : (bs : List ℕ) (f : ℕ) (us : List ℕ) → length us ≡ field_count - f → ((g : ℕ) → f ≤ g → g < field_count → contains (range_at bs (range_words * g)) (slice_index us (g - f)) ≡ true) → InBox f bs us
+box-holds bs f us e t = fields_hold bs 0 f us e (λ g l h. simp zero-add (t g l h))
 
 -- How two ranges stand by the order of their ends.
 module _ (row box : Range) where
-  pub range-below : row.high < box.low → RangeApart row box
-  range-below h v i = contains-above row v (omega (arith, contains-between box v i))
+  pub range_below : row.high < box.low → RangeApart row box
+  range_below h v i = contains_above row v (omega (arith, contains_between box v i))
 
-  pub range-above : box.high < row.low → RangeApart row box
-  range-above h v i = contains-below row v (omega (arith, contains-between box v i))
+  pub range_above : box.high < row.low → RangeApart row box
+  range_above h v i = contains_below row v (omega (arith, contains_between box v i))
 
-  pub range-covers : row.low ≤ box.low → box.high ≤ row.high → RangeCovers row box
-  range-covers p q v i = contains-in row v (omega (arith, contains-between box v i)) (omega (arith, contains-between box v i))
+  pub range_covers : row.low ≤ box.low → box.high ≤ row.high → RangeCovers row box
+  range_covers p q v i = contains_in row v (omega (arith, contains_between box v i)) (omega (arith, contains_between box v i))
 
 -- In one field: apart, with an end inside, or as before.
 module _ (s r : Stand) (row box : Range) where
@@ -97,8 +97,8 @@ module _ (s r : Stand) (row box : Range) where
   pub field_cut : r.apart ≡ false → r.covers ≡ false → FieldStand s row box r
   field_cut a c = record { apart = λ e. absurd (false≢true (sym a ∙ e)); one = λ e. c; covers = λ e. absurd (false≢true (sym c ∙ e)) }
 
-pub field-covered : (s : Stand) (row box : Range) → s.apart ≡ false → RangeCovers row box → FieldStand s row box s
-field-covered s row box a t = record {
+pub field_covered : (s : Stand) (row box : Range) → s.apart ≡ false → RangeCovers row box → FieldStand s row box s
+field_covered s row box a t = record {
   apart = λ e. absurd (false≢true (sym a ∙ e));
   one = λ e. absurd (false≢true (sym a ∙ e));
   covers = λ e. (e, t);
@@ -106,86 +106,86 @@ field-covered s row box a t = record {
 
 -- The row holds the box's values in each of the fields from f on and before n.
 unfoldable pub CoversTo : List ℕ → ℕ → ℕ → List ℕ → ℕ → Type 0
-CoversTo ws at f bs n = (g : ℕ) → f ≤ g → g < n → RangeCovers (rangeAt ws (at + rangeWords * g)) (rangeAt bs (rangeWords * g))
+CoversTo ws at f bs n = (g : ℕ) → f ≤ g → g < n → RangeCovers (range_at ws (at + range_words * g)) (range_at bs (range_words * g))
 
 module _ (ws : List ℕ) (at f : ℕ) (bs : List ℕ) where
   -- One field in which they are apart is enough; all have to be covered.
-  pub field-parts : (n : ℕ) → f ≤ n → n < fieldCount → RangeApart (rangeAt ws (at + rangeWords * n)) (rangeAt bs (rangeWords * n)) → Apart ws at f bs
+  pub field_parts : (n : ℕ) → f ≤ n → n < field_count → RangeApart (range_at ws (at + range_words * n)) (range_at bs (range_words * n)) → Apart ws at f bs
   unfolding Apart
-  field-parts n l h t us i = field-missed ws at f us n l h (t (slice_index us (n - f)) (box-held bs f us i n l h))
+  field_parts n l h t us i = field-missed ws at f us n l h (t (slice_index us (n - f)) (box_held bs f us i n l h))
 
-  pub covers-none : CoversTo ws at f bs f
+  pub covers_none : CoversTo ws at f bs f
   unfolding CoversTo
-  covers-none g l h = absurd (omega arith)
+  covers_none g l h = absurd (omega arith)
 
-  pub covers_more : (n : ℕ) → CoversTo ws at f bs n → RangeCovers (rangeAt ws (at + rangeWords * n)) (rangeAt bs (rangeWords * n)) → CoversTo ws at f bs (n + 1)
+  pub covers_more : (n : ℕ) → CoversTo ws at f bs n → RangeCovers (range_at ws (at + range_words * n)) (range_at bs (range_words * n)) → CoversTo ws at f bs (n + 1)
   unfolding CoversTo
   covers_more n old t g p q = by (dec_lt g n)
     where
-      by : Dec (g < n) → RangeCovers (rangeAt ws (at + rangeWords * g)) (rangeAt bs (rangeWords * g))
+      by : Dec (g < n) → RangeCovers (range_at ws (at + range_words * g)) (range_at bs (range_words * g))
       by (yes m) = old g p m
       by (no m) = let k : g ≡ n = omega arith in rw k t
 
-  pub covers-all : (n : ℕ) → fieldCount ≤ n → CoversTo ws at f bs n → Covers ws at f bs
+  pub covers_all : (n : ℕ) → field_count ≤ n → CoversTo ws at f bs n → Covers ws at f bs
   unfolding CoversTo Covers
-  covers-all n q t us i = fields-hold ws at f us (box-length bs f us i) (λ g l h. t g l (omega arith) (slice_index us (g - f)) (box-held bs f us i g l h))
+  covers_all n q t us i = fields_hold ws at f us (box-length bs f us i) (λ g l h. t g l (omega arith) (slice_index us (g - f)) (box_held bs f us i g l h))
 
-  pub box-apart : (n : ℕ) (s r : Stand) → f ≤ n → n < fieldCount → r.apart ≡ true → FieldStand s (rangeAt ws (at + rangeWords * n)) (rangeAt bs (rangeWords * n)) r
+  pub box_apart : (n : ℕ) (s r : Stand) → f ≤ n → n < field_count → r.apart ≡ true → FieldStand s (range_at ws (at + range_words * n)) (range_at bs (range_words * n)) r
       → BoxStand ws at f bs r
-  box-apart n s r l h a t = record { apart = λ e. field-parts n l h (t.apart e); covers = λ e. absurd (false≢true (sym (t.one a) ∙ e)) }
+  box_apart n s r l h a t = record { apart = λ e. field_parts n l h (t.apart e); covers = λ e. absurd (false≢true (sym (t.one a) ∙ e)) }
 
-  pub box-covered : (s : Stand) → s.apart ≡ false → (s.covers ≡ true → Covers ws at f bs) → BoxStand ws at f bs s
-  box-covered s a t = record { apart = λ e. absurd (false≢true (sym a ∙ e)); covers = t }
+  pub box_covered : (s : Stand) → s.apart ≡ false → (s.covers ≡ true → Covers ws at f bs) → BoxStand ws at f bs s
+  box_covered s a t = record { apart = λ e. absurd (false≢true (sym a ∙ e)); covers = t }
 
-  pub box-unknown : (s : Stand) → s.apart ≡ false → s.covers ≡ false → BoxStand ws at f bs s
-  box-unknown s a c = box-covered s a (λ e. absurd (false≢true (sym c ∙ e)))
+  pub box_unknown : (s : Stand) → s.apart ≡ false → s.covers ≡ false → BoxStand ws at f bs s
+  box_unknown s a c = box_covered s a (λ e. absurd (false≢true (sym c ∙ e)))
 
 -- Two rows are apart where their ranges of one field are.
-pub rows-part : (ws : List ℕ) (a b f n : ℕ) → f ≤ n → n < fieldCount → RangeApart (rangeAt ws (rangesWord a + rangeWords * n)) (rangeAt ws (rangesWord b + rangeWords * n)) → RowsApart ws a b f
+pub rows_part : (ws : List ℕ) (a b f n : ℕ) → f ≤ n → n < field_count → RangeApart (range_at ws (ranges_word a + range_words * n)) (range_at ws (ranges_word b + range_words * n)) → RowsApart ws a b f
 unfolding RowsApart
-rows-part ws a b f n l h t us i j =
-    false≢true (sym (t (slice_index us (n - f)) (field-held ws (rangesWord b) f us j n l h)) ∙ field-held ws (rangesWord a) f us i n l h)
+rows_part ws a b f n l h t us i j =
+    false≢true (sym (t (slice_index us (n - f)) (field_held ws (ranges_word b) f us j n l h)) ∙ field_held ws (ranges_word a) f us i n l h)
 
 -- The words of two fields lie apart.
-fields-beside : (k g j l : ℕ) → k ≢ g → j ≤ 2 → l ≤ 2 → (rangeWords * k + j + 1 < rangeWords * g + l) ⊎ (rangeWords * g + l + 1 < rangeWords * k + j)
-fields-beside k g j l q p r = by (dec_lt k g)
+fields_beside : (k g j l : ℕ) → k ≢ g → j ≤ 2 → l ≤ 2 → (range_words * k + j + 1 < range_words * g + l) ⊎ (range_words * g + l + 1 < range_words * k + j)
+fields_beside k g j l q p r = by (dec_lt k g)
   where
-    by : Dec (k < g) → (rangeWords * k + j + 1 < rangeWords * g + l) ⊎ (rangeWords * g + l + 1 < rangeWords * k + j)
+    by : Dec (k < g) → (range_words * k + j + 1 < range_words * g + l) ⊎ (range_words * g + l + 1 < range_words * k + j)
     by (yes h) = inl (omega arith)
     by (no h) = let m : g < k = omega (arith, q) in inr (omega arith)
 
 -- A box with another end in the field g, at the word j of the field: the range of that field is new, and no other.
 module _ (bs : List ℕ) (g j n : ℕ) (p : j ≤ 2) where
-  range_other : (k : ℕ) → k ≢ g → rangeAt (written bs (rangeWords * g + j) n) (rangeWords * k) ≡ rangeAt bs (rangeWords * k)
+  range_other : (k : ℕ) → k ≢ g → range_at (written bs (range_words * g + j) n) (range_words * k) ≡ range_at bs (range_words * k)
   range_other k q =
-      rw (value-other bs (rangeWords * g + j) n (rangeWords * k) (simp add-zero at (fields-beside k g 0 j q (omega arith) p)), value-other bs (rangeWords * g + j) n (rangeWords * k + 2) (fields-beside k g 2 j q (omega arith) p))
+      rw (value_other bs (range_words * g + j) n (range_words * k) (simp add-zero at (fields_beside k g 0 j q (omega arith) p)), value_other bs (range_words * g + j) n (range_words * k + 2) (fields_beside k g 2 j q (omega arith) p))
 
-  box-written : (f : ℕ) (us : List ℕ) → InBox f bs us → (f ≤ g → contains (rangeAt (written bs (rangeWords * g + j) n) (rangeWords * g)) (slice_index us (g - f)) ≡ true)
-      → InBox f (written bs (rangeWords * g + j) n) us
+  box-written : (f : ℕ) (us : List ℕ) → InBox f bs us → (f ≤ g → contains (range_at (written bs (range_words * g + j) n) (range_words * g)) (slice_index us (g - f)) ≡ true)
+      → InBox f (written bs (range_words * g + j) n) us
   box-written f us i t = box-holds _ f us (box-length bs f us i) (λ k l h. by k l h (ℕ_discrete k g))
     where
-      by : (k : ℕ) → f ≤ k → k < fieldCount → Dec (k ≡ g) → contains (rangeAt (written bs (rangeWords * g + j) n) (rangeWords * k)) (slice_index us (k - f)) ≡ true
+      by : (k : ℕ) → f ≤ k → k < field_count → Dec (k ≡ g) → contains (range_at (written bs (range_words * g + j) n) (range_words * k)) (slice_index us (k - f)) ≡ true
       by k l h (yes q) = rw q (t (omega arith))
-      by k l h (no q) = rw (range_other k q) (box-held bs f us i k l h)
+      by k l h (no q) = rw (range_other k q) (box_held bs f us i k l h)
 
-module _ (bs bs' : List ℕ) (g n : ℕ) (h : g < fieldCount) (size : length bs ≡ rangesWords) where
-  pub written-high : bs' ≡ written bs (rangeWords * g + 2) n → Lowered g n bs bs'
+module _ (bs bs' : List ℕ) (g n : ℕ) (h : g < field_count) (size : length bs ≡ ranges_words) where
+  pub written_high : bs' ≡ written bs (range_words * g + 2) n → Lowered g n bs bs'
   unfolding Lowered
-  written-high e f us i l = rw e (box-written bs g 2 n (omega arith) f us i (λ m.
-      rw (value-own bs (rangeWords * g + 2) n (omega arith), value-other bs (rangeWords * g + 2) n (rangeWords * g) (inl (omega arith)))
-      (contains-in (range (number (value_at bs (rangeWords * g))) n) (slice_index us (g - f)) (contains-between _ _ (box-held bs f us i g m h)).0 l)))
+  written_high e f us i l = rw e (box-written bs g 2 n (omega arith) f us i (λ m.
+      rw (value_own bs (range_words * g + 2) n (omega arith), value_other bs (range_words * g + 2) n (range_words * g) (inl (omega arith)))
+      (contains_in (range (number (value_at bs (range_words * g))) n) (slice_index us (g - f)) (contains_between _ _ (box_held bs f us i g m h)).0 l)))
 
-  pub written_low : bs' ≡ written bs (rangeWords * g) n → Raised g n bs bs'
+  pub written_low : bs' ≡ written bs (range_words * g) n → Raised g n bs bs'
   unfolding Raised
   written_low e f us i l = rw e ((simp add-zero at (box-written bs g 0 n (omega arith) f us i)) (λ m.
-      rw (value-own bs (rangeWords * g) n (omega arith), value-other bs (rangeWords * g) n (rangeWords * g + 2) (inr (omega arith)))
-      (contains-in (range n (number (value_at bs (rangeWords * g + 2)))) (slice_index us (g - f)) l (contains-between _ _ (box-held bs f us i g m h)).1)))
+      rw (value_own bs (range_words * g) n (omega arith), value_other bs (range_words * g) n (range_words * g + 2) (inr (omega arith)))
+      (contains_in (range n (number (value_at bs (range_words * g + 2)))) (slice_index us (g - f)) l (contains_between _ _ (box_held bs f us i g m h)).1)))
 
 -- The box itself has what is in it.
 module _ (g n : ℕ) (bs : List ℕ) where
-  pub raised-none : Raised g n bs bs
+  pub raised_none : Raised g n bs bs
   unfolding Raised
-  raised-none f us i l = i
+  raised_none f us i l = i
 
   pub lowered_none : Lowered g n bs bs
   unfolding Lowered
@@ -193,9 +193,9 @@ module _ (g n : ℕ) (bs : List ℕ) where
 
 -- The parts on the two sides of a value.
 module _ (g at : ℕ) (bs bs' : List ℕ) where
-  pub part-upper : Raised g at bs bs' → Part g at true bs bs'
+  pub part_upper : Raised g at bs bs' → Part g at true bs bs'
   unfolding Raised Part
-  part-upper t f us i e = t f us i (ltb-false _ _ e)
+  part_upper t f us i e = t f us i (ltb-false _ _ e)
 
   pub part-lower : (n : ℕ) → n ≡ at - 1 → Lowered g n bs bs' → Part g at false bs bs'
   unfolding Lowered Part
@@ -203,15 +203,15 @@ module _ (g at : ℕ) (bs bs' : List ℕ) where
 
 -- What a box has in common with a row, field by field.
 module _ (ws : List ℕ) (at f : ℕ) (bs : List ℕ) where
-  pub common-none : Common ws at f bs bs
+  pub common_none : Common ws at f bs bs
   unfolding Common
-  common-none us i e = i
+  common_none us i e = i
 
-  pub common-more : (g : ℕ) (row : Ends) (bs' above bs'' : List ℕ) → f ≤ g → g < fieldCount → row ≡ ends_at ws (at + rangeWords * g)
+  pub common_more : (g : ℕ) (row : Ends) (bs' above bs'' : List ℕ) → f ≤ g → g < field_count → row ≡ ends_at ws (at + range_words * g)
       → Common ws at f bs bs' → Raised g (number row.low) bs' above → Lowered g (number row.high) above bs'' → Common ws at f bs bs''
   unfolding Common Raised Lowered
-  common-more g row bs' above bs'' l h p t r s us i e =
-      let b = contains-between _ _ (field-held ws at f us e g l h) in
+  common_more g row bs' above bs'' l h p t r s us i e =
+      let b = contains_between _ _ (field_held ws at f us e g l h) in
       s f us (r f us (t us i e) (rw p b.0)) (rw p b.1)
 
 -- A test has one of the two answers.
@@ -223,25 +223,25 @@ one_side false false = inr refl
 
 -- The listed rows cover a box that one of them covers; a survey says so.
 module _ (first second es : List ℕ) (n f : ℕ) (bs : List ℕ) where
-  pub surveyed-row : (k : ℕ) (s : Stand) → k < n → BoxStand (table_of first second (slice_index es k)) (rangesWord (row_of (slice_index es k))) f bs s → Surveyed first second es n f bs s
+  pub surveyed-row : (k : ℕ) (s : Stand) → k < n → BoxStand (table_of first second (slice_index es k)) (ranges_word (row_of (slice_index es k))) f bs s → Surveyed first second es n f bs s
   unfolding Surveyed Covered Covers
   surveyed-row k s h t c us i miss = false≢true (sym (miss k h) ∙ t.covers c us i)
 
-  pub surveyed-none : (s : Stand) → s.covers ≡ false → Surveyed first second es n f bs s
+  pub surveyed_none : (s : Stand) → s.covers ≡ false → Surveyed first second es n f bs s
   unfolding Surveyed
-  surveyed-none s c e = absurd (false≢true (sym c ∙ e))
+  surveyed_none s c e = absurd (false≢true (sym c ∙ e))
 
   -- What no listed row holds in the box is in the other one.
   unfoldable pub Rest : List ℕ → Type 0
-  Rest rest = (us : List ℕ) → InBox f bs us → ((k : ℕ) → k < n → codeHolds first second f (slice_index es k) us ≡ false) → InBox f rest us
+  Rest rest = (us : List ℕ) → InBox f bs us → ((k : ℕ) → k < n → code_holds first second f (slice_index es k) us ≡ false) → InBox f rest us
 
   pub rest_all : Rest bs
   unfolding Rest
   rest_all us i miss = i
 
-  pub rest-surveyed : (rest : List ℕ) (s : Stand) → Rest rest → Surveyed first second es n f rest s → s.covers ≡ true → Covered first second es n f bs
+  pub rest_surveyed : (rest : List ℕ) (s : Stand) → Rest rest → Surveyed first second es n f rest s → s.covers ≡ true → Covered first second es n f bs
   unfolding Rest Surveyed Covered
-  rest-surveyed rest s r t c us i miss = t c us (r us i miss) miss
+  rest_surveyed rest s r t c us i miss = t c us (r us i miss) miss
 
   pub rest_part : (rest near far : List ℕ) (g at : ℕ) (upper : Bool) → Rest rest → Part g at upper rest near → Covered first second es n f near → Part g at (not upper) rest far
       → Rest far

@@ -2,36 +2,36 @@
 -- A box is five ranges. In it and in rows, only the fields from a field f on count, and values are one for each of these.
 use Rattle.std.specs.Prelude.{◌≡◌, ℕ, ◌+◌, ◌-◌, ◌*◌, ◌/◌, ◌%◌, ◌<◌, ◌≤◌, Bool, true, false, cond, not, List, ◌==◌, ◌≢◌, nat_lt, slice_index}
 use Rattle.selectors.specs.Range.{Range, contains, holds}
-use Rattle.selectors.specs.Words.{fieldCount, rangesFrom}
-use Rattle.policy.specs.Words.{headWords, rowWords}
+use Rattle.selectors.specs.Words.{field_count, ranges_from}
+use Rattle.policy.specs.Words.{head_words, row_words}
 use Rattle.cover.specs.declared.Stand.{Stand}
 
 -- The word at which the ranges of the row i begin: those of its direction and its action come first.
-abbrev pub rangesWord : ℕ → ℕ
-rangesWord i = i * rowWords + headWords
+abbrev pub ranges_word : ℕ → ℕ
+ranges_word i = i * row_words + head_words
 
 -- The ranges of the fields from f on, of the five from the word `at` on.
-abbrev pub rangesBehind : List ℕ → ℕ → ℕ → List Range
-rangesBehind ws at f = rangesFrom ws at f (fieldCount - f)
+abbrev pub ranges_behind : List ℕ → ℕ → ℕ → List Range
+ranges_behind ws at f = ranges_from ws at f (field_count - f)
 
 -- These values are in the box.
 abbrev pub InBox : ℕ → List ℕ → List ℕ → Type 0
-InBox f bs us = holds (rangesBehind bs 0 f) us ≡ true
+InBox f bs us = holds (ranges_behind bs 0 f) us ≡ true
 
 -- A code stands for a row of one of two policies, and says on which of two sides it is: the place of the row times 8, plus 4 for a row
 -- of the second policy, plus 2 for the second side and 1 for the first.
 abbrev pub row_of : ℕ → ℕ
 row_of e = e / 8
 
-abbrev pub inSecond : ℕ → Bool
-inSecond e = e / 4 % 2 == 1
+abbrev pub in_second : ℕ → Bool
+in_second e = e / 4 % 2 == 1
 
 abbrev pub table_of : List ℕ → List ℕ → ℕ → List ℕ
-table_of first second e = cond (inSecond e) second first
+table_of first second e = cond (in_second e) second first
 
 -- The row of a code holds the values.
-abbrev pub codeHolds : List ℕ → List ℕ → ℕ → ℕ → List ℕ → Bool
-codeHolds first second f e us = holds (rangesBehind (table_of first second e) (rangesWord (row_of e)) f) us
+abbrev pub code_holds : List ℕ → List ℕ → ℕ → ℕ → List ℕ → Bool
+code_holds first second f e us = holds (ranges_behind (table_of first second e) (ranges_word (row_of e)) f) us
 
 -- What is still in the box where the field g has no value above h, none below l, or none on the other side of a value.
 unfoldable pub Lowered : ℕ → ℕ → List ℕ → List ℕ → Type 0
@@ -45,19 +45,19 @@ Part g at upper bs bs' = (f : ℕ) (us : List ℕ) → InBox f bs us → nat_lt 
 
 -- What the box and the ranges at a word both hold is in the other box.
 unfoldable pub Common : List ℕ → ℕ → ℕ → List ℕ → List ℕ → Type 0
-Common ws at f bs bs' = (us : List ℕ) → InBox f bs us → holds (rangesBehind ws at f) us ≡ true → InBox f bs' us
+Common ws at f bs bs' = (us : List ℕ) → InBox f bs us → holds (ranges_behind ws at f) us ≡ true → InBox f bs' us
 
 -- None of the box's values is in the ranges at a word; and all are.
 unfoldable pub Apart : List ℕ → ℕ → ℕ → List ℕ → Type 0
-Apart ws at f bs = (us : List ℕ) → InBox f bs us → holds (rangesBehind ws at f) us ≡ false
+Apart ws at f bs = (us : List ℕ) → InBox f bs us → holds (ranges_behind ws at f) us ≡ false
 
 unfoldable pub Covers : List ℕ → ℕ → ℕ → List ℕ → Type 0
-Covers ws at f bs = (us : List ℕ) → InBox f bs us → holds (rangesBehind ws at f) us ≡ true
+Covers ws at f bs = (us : List ℕ) → InBox f bs us → holds (ranges_behind ws at f) us ≡ true
 
 -- No values are held by both of two rows, from the field f on.
 unfoldable pub RowsApart : List ℕ → ℕ → ℕ → ℕ → Type 0
 RowsApart ws a b f =
-    (us : List ℕ) → holds (rangesBehind ws (rangesWord a) f) us ≡ true → holds (rangesBehind ws (rangesWord b) f) us ≢ true
+    (us : List ℕ) → holds (ranges_behind ws (ranges_word a) f) us ≡ true → holds (ranges_behind ws (ranges_word b) f) us ≢ true
 
 -- The same of a range of the box and one of the row.
 abbrev pub RangeApart : Range → Range → Type 0
@@ -80,7 +80,7 @@ pub record BoxStand (ws : List ℕ) (at f : ℕ) (bs : List ℕ) (r : Stand) : T
 -- The first n rows of a list of codes cover the box: no value in it is one that none of them holds.
 unfoldable pub Covered : List ℕ → List ℕ → List ℕ → ℕ → ℕ → List ℕ → Type 0
 Covered first second es n f bs =
-    (us : List ℕ) → InBox f bs us → ((k : ℕ) → k < n → codeHolds first second f (slice_index es k) us ≡ false) → ⊥
+    (us : List ℕ) → InBox f bs us → ((k : ℕ) → k < n → code_holds first second f (slice_index es k) us ≡ false) → ⊥
 
 -- What a survey of the first n rows says: one of them covers the box.
 unfoldable pub Surveyed : List ℕ → List ℕ → List ℕ → ℕ → ℕ → List ℕ → Stand → Type 0

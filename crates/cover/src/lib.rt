@@ -4,8 +4,8 @@ mod rows;
 mod stands;
 
 ghost use Rattle.std.specs.Prelude.{◌≡◌, ◌*◌, ◌≤◌, true};
-ghost use Rattle.policy.specs.Words.{rowLimit};
-ghost use Rattle.cover.specs.Boxes.{row_of, inSecond, rangesWord, table_of, Common, Apart, Covers, RowsApart, Covered};
+ghost use Rattle.policy.specs.Words.{row_limit};
+ghost use Rattle.cover.specs.Boxes.{row_of, in_second, ranges_word, table_of, Common, Apart, Covers, RowsApart, Covered};
 
 use crate::parts::{common_in, part};
 use crate::rows::{apart_in, covers_in, ranges_apart};
@@ -54,7 +54,7 @@ pub fn row_of(code: u32) -> usize
 }
 
 pub fn in_second(code: u32) -> bool
-    ensures { result ≡ inSecond code }
+    ensures { result ≡ in_second code }
 {
     code / 4 % 2 == 1
 }
@@ -78,7 +78,7 @@ fn cover(
     depth: usize,
     parts: usize,
 ) -> Known
-    requires { count ≤ 2 * rowLimit }
+    requires { count ≤ 2 * row_limit }
     ensures { (result.left ≤ parts) × (result.yes ≡ true → Covered first.now second.now list.now count field bounds.words) }
 {
     let mut rest = bounds;
@@ -135,7 +135,7 @@ pub fn covered(
 
 // A box that has all that a box and the row of a code have in common, in the fields from `field` on.
 pub fn common(first: &[u64], second: &[u64], code: u32, field: usize, bounds: Bounds) -> Bounds
-    ensures { Common (table_of first.now second.now code) (rangesWord (row_of code)) field bounds.words result.words }
+    ensures { Common (table_of first.now second.now code) (ranges_word (row_of code)) field bounds.words result.words }
 {
     if in_second(code) {
         return common_in(second, code, field, bounds);
@@ -151,7 +151,7 @@ pub fn apart_from(
     field: usize,
     bounds: &[u64; RANGES_WORDS],
 ) -> bool
-    ensures { result ≡ true → Apart (table_of first.now second.now code) (rangesWord (row_of code)) field bounds.now }
+    ensures { result ≡ true → Apart (table_of first.now second.now code) (ranges_word (row_of code)) field bounds.now }
 {
     if in_second(code) {
         return apart_in(second, code, field, bounds);
@@ -166,7 +166,7 @@ pub fn covers(
     field: usize,
     bounds: &[u64; RANGES_WORDS],
 ) -> bool
-    ensures { result ≡ true → Covers (table_of first.now second.now code) (rangesWord (row_of code)) field bounds.now }
+    ensures { result ≡ true → Covers (table_of first.now second.now code) (ranges_word (row_of code)) field bounds.now }
 {
     if in_second(code) {
         return covers_in(second, code, field, bounds);

@@ -2,8 +2,8 @@
 ghost use Rattle.std.specs.Prelude.{◌≡◌, ◌<◌};
 ghost use Rattle.std.proofs.lemmas.List.Edits.{sets};
 ghost use Rattle.selectors.specs.Value.{number};
-ghost use Rattle.selectors.specs.Words.{fieldCount, wordsOfValue};
-ghost use Rattle.cover.specs.Boxes.{row_of, rangesWord, Lowered, Raised, Part, Common};
+ghost use Rattle.selectors.specs.Words.{field_count, words_of_value};
+ghost use Rattle.cover.specs.Boxes.{row_of, ranges_word, Lowered, Raised, Part, Common};
 
 use crate::Bounds;
 use crate::rows::ranges_word;
@@ -13,7 +13,7 @@ use selectors::words::{
 };
 
 fn with_bound(bounds: Bounds, at: usize, value: Value) -> Bounds
-    ensures { result.words ≡ sets bounds.words at (wordsOfValue (number value)) }
+    ensures { result.words ≡ sets bounds.words at (words_of_value (number value)) }
 {
     let mut words = bounds.words;
     put_value(&mut words, at, value);
@@ -22,7 +22,7 @@ fn with_bound(bounds: Bounds, at: usize, value: Value) -> Bounds
 
 // The part of the box in which the field has values up to `high`.
 fn with_high(bounds: Bounds, field: usize, high: Value) -> Bounds
-    requires { field < fieldCount }
+    requires { field < field_count }
     ensures { Lowered field (number high) bounds.words result.words }
 {
     with_bound(bounds, RANGE_WORDS * field + VALUE_WORDS, high)
@@ -30,7 +30,7 @@ fn with_high(bounds: Bounds, field: usize, high: Value) -> Bounds
 
 // The part of the box in which the field has values from `low` on.
 fn with_low(bounds: Bounds, field: usize, low: Value) -> Bounds
-    requires { field < fieldCount }
+    requires { field < field_count }
     ensures { Raised field (number low) bounds.words result.words }
 {
     with_bound(bounds, RANGE_WORDS * field, low)
@@ -38,7 +38,7 @@ fn with_low(bounds: Bounds, field: usize, low: Value) -> Bounds
 
 // The part of the box below a value of a field, or from it on.
 pub(crate) fn part(bounds: Bounds, field: usize, at: Value, upper: bool) -> Bounds
-    requires { field < fieldCount }
+    requires { field < field_count }
     ensures { Part field (number at) upper bounds.words result.words }
 {
     if upper {
@@ -49,7 +49,7 @@ pub(crate) fn part(bounds: Bounds, field: usize, at: Value, upper: bool) -> Boun
 
 // The box without the values of the field below `low`, if there are any; and without those above `high`.
 fn raised(bounds: Bounds, field: usize, low: Value) -> Bounds
-    requires { field < fieldCount }
+    requires { field < field_count }
     ensures { Raised field (number low) bounds.words result.words }
 {
     let words = bounds.words;
@@ -60,7 +60,7 @@ fn raised(bounds: Bounds, field: usize, low: Value) -> Bounds
 }
 
 fn lowered(bounds: Bounds, field: usize, high: Value) -> Bounds
-    requires { field < fieldCount }
+    requires { field < field_count }
     ensures { Lowered field (number high) bounds.words result.words }
 {
     let words = bounds.words;
@@ -72,7 +72,7 @@ fn lowered(bounds: Bounds, field: usize, high: Value) -> Bounds
 
 // What a box has in common with a code's row among these, in the fields from `field` on; if there is no such row, the box.
 pub(crate) fn common_in(rows: &[u64], code: u32, field: usize, bounds: Bounds) -> Bounds
-    ensures { Common rows.now (rangesWord (row_of code)) field bounds.words result.words }
+    ensures { Common rows.now (ranges_word (row_of code)) field bounds.words result.words }
 {
     let base = ranges_word(code);
     if rows.len() < base + RANGES_WORDS {

@@ -1,7 +1,7 @@
 // A row of a policy beside a box: by the ends of their ranges, field by field.
 ghost use Rattle.std.specs.Prelude.{◌≡◌, true};
-ghost use Rattle.selectors.specs.Ranges.{endsRange};
-ghost use Rattle.cover.specs.Boxes.{row_of, rangesWord, Apart, Covers, RangeApart, RangeCovers};
+ghost use Rattle.selectors.specs.Ranges.{ends_range};
+ghost use Rattle.cover.specs.Boxes.{row_of, ranges_word, Apart, Covers, RangeApart, RangeCovers};
 
 use crate::row_of;
 use policy::{HEAD_WORDS, ROW_WORDS};
@@ -10,14 +10,14 @@ use selectors::words::{FIELDS, RANGE_WORDS, RANGES_WORDS, ends_at};
 
 // The word at which the ranges of a code's row begin.
 pub(crate) fn ranges_word(code: u32) -> usize
-    ensures { result ≡ rangesWord (row_of code) }
+    ensures { result ≡ ranges_word (row_of code) }
 {
     row_of(code) * ROW_WORDS + HEAD_WORDS
 }
 
 // Whether two ranges are apart: one ends before the other begins.
 pub(crate) fn ranges_apart(row: Ends, own: Ends) -> bool
-    ensures { result ≡ true → RangeApart (endsRange row) (endsRange own) }
+    ensures { result ≡ true → RangeApart (ends_range row) (ends_range own) }
 {
     if row.high.less(own.low) {
         return true;
@@ -27,7 +27,7 @@ pub(crate) fn ranges_apart(row: Ends, own: Ends) -> bool
 
 // Whether a range has all the values of another one.
 fn range_covers(row: Ends, own: Ends) -> bool
-    ensures { result ≡ true → RangeCovers (endsRange row) (endsRange own) }
+    ensures { result ≡ true → RangeCovers (ends_range row) (ends_range own) }
 {
     if own.low.less(row.low) {
         return false;
@@ -37,7 +37,7 @@ fn range_covers(row: Ends, own: Ends) -> bool
 
 // Whether a code's row among these is known to be apart from a box, in the fields from `field` on.
 pub(crate) fn apart_in(rows: &[u64], code: u32, field: usize, bounds: &[u64; RANGES_WORDS]) -> bool
-    ensures { result ≡ true → Apart rows.now (rangesWord (row_of code)) field bounds.now }
+    ensures { result ≡ true → Apart rows.now (ranges_word (row_of code)) field bounds.now }
 {
     let base = ranges_word(code);
     if rows.len() < base + RANGES_WORDS {
@@ -56,7 +56,7 @@ pub(crate) fn apart_in(rows: &[u64], code: u32, field: usize, bounds: &[u64; RAN
 
 // Whether it covers the box, in the fields from `field` on.
 pub(crate) fn covers_in(rows: &[u64], code: u32, field: usize, bounds: &[u64; RANGES_WORDS]) -> bool
-    ensures { result ≡ true → Covers rows.now (rangesWord (row_of code)) field bounds.now }
+    ensures { result ≡ true → Covers rows.now (ranges_word (row_of code)) field bounds.now }
 {
     let base = ranges_word(code);
     if rows.len() < base + RANGES_WORDS {

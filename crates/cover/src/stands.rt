@@ -1,8 +1,8 @@
 // How rows stand to a box: apart from it, covering it, or cutting it, and where best to split it.
 ghost use Rattle.std.specs.Prelude.{◌≡◌, ◌*◌, ◌<◌, ◌≤◌, true, false};
-ghost use Rattle.selectors.specs.Ranges.{endsRange};
-ghost use Rattle.policy.specs.Words.{rowLimit};
-ghost use Rattle.cover.specs.Boxes.{row_of, rangesWord, table_of, FieldStand, BoxStand, Surveyed};
+ghost use Rattle.selectors.specs.Ranges.{ends_range};
+ghost use Rattle.policy.specs.Words.{row_limit};
+ghost use Rattle.cover.specs.Boxes.{row_of, ranges_word, table_of, FieldStand, BoxStand, Surveyed};
 
 use crate::rows::{ranges_apart, ranges_word};
 use crate::{MOST, Stand, in_second};
@@ -74,7 +74,7 @@ fn cut_at(s: Stand, field: usize, at: Value, above: bool, score: u64) -> Stand
 // The stand with one field more, by the row's range and the box's own.
 fn stand_one(s: Stand, field: usize, row: Ends, own: Ends) -> Stand
     requires { s.apart ≡ false }
-    ensures { FieldStand s (endsRange row) (endsRange own) result }
+    ensures { FieldStand s (ends_range row) (ends_range own) result }
 {
     if ranges_apart(row, own) {
         return uncut(true, false);
@@ -90,7 +90,7 @@ fn stand_one(s: Stand, field: usize, row: Ends, own: Ends) -> Stand
 
 // How a code's row among these, from the field on, stands to a box. That the row is there is asked once, so that the tests of its ranges fall away.
 fn stand_in(rows: &[u64], code: u32, field: usize, bounds: &[u64; RANGES_WORDS]) -> Stand
-    ensures { BoxStand rows.now (rangesWord (row_of code)) field bounds.now result }
+    ensures { BoxStand rows.now (ranges_word (row_of code)) field bounds.now result }
 {
     let base = ranges_word(code);
     if rows.len() < base + RANGES_WORDS {
@@ -118,7 +118,7 @@ fn stand_of(
     field: usize,
     bounds: &[u64; RANGES_WORDS],
 ) -> Stand
-    ensures { BoxStand (table_of first.now second.now code) (rangesWord (row_of code)) field bounds.now result }
+    ensures { BoxStand (table_of first.now second.now code) (ranges_word (row_of code)) field bounds.now result }
 {
     if in_second(code) {
         return stand_in(second, code, field, bounds);
@@ -152,7 +152,7 @@ pub(crate) fn survey(
     field: usize,
     bounds: &[u64; RANGES_WORDS],
 ) -> Stand
-    requires { count ≤ 2 * rowLimit }
+    requires { count ≤ 2 * row_limit }
     ensures { Surveyed first.now second.now list.now count field bounds.now result }
 {
     let mut best = uncut(false, false);

@@ -5,28 +5,28 @@ use Rattle.std.proofs.Math.Decide.{ℕ_discrete}
 use Rattle.std.proofs.lemmas.Bool.{false≢true}
 use mathlib.Core.List.{List, [], ◌∷◌, cons-ne-nil}
 use Rattle.selectors.specs.declared.Direction.{Direction}
-use Rattle.normal_form.specs.ShapeLaws.{normal-form-empty}
+use Rattle.normal_form.specs.ShapeLaws.{normal_form_empty}
 use Rattle.policy.specs.declared.Action.{Action}
 use Rattle.policy.specs.declared.Action.TheVariants.{Discard}
 use Rattle.policy.specs.ActionLaws.{action-≟}
-use Rattle.policy.specs.Policy.{PolicyRow, orderedSearch}
-use Rattle.policy.specs.Words.{actionOf, actionWord}
-use Rattle.policy.specs.WordsLaws.{word-action}
-use Rattle.layout.specs.Parting.{parting-≟, agreed, parted, partingAt, differenceForm}
-use Rattle.layout.specs.Laid.{sizesOf, room_for, Outcome}
+use Rattle.policy.specs.Policy.{PolicyRow, ordered_search}
+use Rattle.policy.specs.Words.{action_of_word, action_word}
+use Rattle.policy.specs.WordsLaws.{word_action}
+use Rattle.layout.specs.Parting.{parting-≟, agreed, parted, parting_at, difference_form}
+use Rattle.layout.specs.Laid.{sizes_of, room_for, Outcome}
 use Rattle.layout.specs.declared.Point.{Point}
 use Rattle.layout.specs.declared.Laid.{Laid}
 use Rattle.layout.specs.declared.Laid.TheVariants.{Rows, Over, NoRoom}
 use Rattle.policy_text.specs.declared.Edition.{Edition}
-use Rattle.policy_text.specs.Editions.{editionSizes, rules}
+use Rattle.policy_text.specs.Editions.{edition_sizes, rules}
 use Rattle.decorrelate.specs.Form.{form}
 use Rattle.decorrelate.specs.FormLaws.{Counted, counted}
 use Rattle.decorrelate.specs.Agree.{Agree}
 
 -- The policy without rows has a normal form without rows.
 pub empty-form : (d : Direction) (e : Edition) → form d (rules e []) ≡ []
-unfolding orderedSearch
-empty-form d e = (normal-form-empty action-≟ Discard (editionSizes e) (orderedSearch d [])).1 (λ vs ok. refl)
+unfolding ordered_search
+empty-form d e = (normal_form_empty action-≟ Discard (edition_sizes e) (ordered_search d [])).1 (λ vs ok. refl)
 
 parted-agreed : (a b : ℕ) → (parted a b ≡ agreed) ↔ (a ≡ b)
 parted-agreed a b = by (ℕ_discrete a b)
@@ -42,19 +42,19 @@ parted-agreed a b = by (ℕ_discrete a b)
           λ q. absurd (n q),
         )
 
-same-action : (a b : Action) → actionWord a ≡ actionWord b → a ≡ b
-same-action a b e = sym (word-action a) ∙ ap actionOf e ∙ word-action b
+same_action : (a b : Action) → action_word a ≡ action_word b → a ≡ b
+same_action a b e = sym (word_action a) ∙ ap action_of_word e ∙ word_action b
 
 -- Two policies have no difference exactly where they agree.
-pub difference-none : (sizes : List ℕ) (d : Direction) (ps qs : List PolicyRow) → (differenceForm sizes d ps qs ≡ []) ↔ Agree sizes d ps qs
-unfolding partingAt
-difference-none sizes d ps qs =
-    let empty = normal-form-empty parting-≟ agreed sizes (partingAt d ps qs) in (
+pub difference_none : (sizes : List ℕ) (d : Direction) (ps qs : List PolicyRow) → (difference_form sizes d ps qs ≡ []) ↔ Agree sizes d ps qs
+unfolding parting_at
+difference_none sizes d ps qs =
+    let empty = normal_form_empty parting-≟ agreed sizes (parting_at d ps qs) in (
       λ e vs ok.
-          same-action (orderedSearch d ps vs) (orderedSearch d qs vs)
-          ((parted-agreed (actionWord (orderedSearch d ps vs)) (actionWord (orderedSearch d qs vs))).0 (empty.0 e vs ok)),
+          same_action (ordered_search d ps vs) (ordered_search d qs vs)
+          ((parted-agreed (action_word (ordered_search d ps vs)) (action_word (ordered_search d qs vs))).0 (empty.0 e vs ok)),
       λ same. empty.1
-          (λ vs ok. (parted-agreed (actionWord (orderedSearch d ps vs)) (actionWord (orderedSearch d qs vs))).1 (ap actionWord (same vs ok))),
+          (λ vs ok. (parted-agreed (action_word (ordered_search d ps vs)) (action_word (ordered_search d qs vs))).1 (ap action_word (same vs ok))),
     )
 
 -- Whether an answer says that there is no difference.
@@ -73,11 +73,11 @@ no-rows limit L NoRoom c = absurd c
 
 -- What the layout of a difference answers says whether the policies agree.
 pub answers_agree : (limit : ℕ) (sizes : List ℕ) (highest : Point) (d : Direction) (ps qs : List PolicyRow) (room room' : List ℕ) (r : Laid)
-    → room_for limit ≤ length room → Outcome limit (differenceForm (sizesOf highest) d ps qs) room room' r → sizesOf highest ≡ sizes
+    → room_for limit ≤ length room → Outcome limit (difference_form (sizes_of highest) d ps qs) room room' r → sizes_of highest ≡ sizes
     → (no_rows r ≡ true) ↔ Agree sizes d ps qs
 answers_agree limit sizes highest d ps qs room room' r enough o same =
-    let D = differenceForm (sizesOf highest) d ps qs in
+    let D = difference_form (sizes_of highest) d ps qs in
     let none = no-rows limit D r (counted limit (length D) (length room) r enough o.answer) in
-    let e : D ≡ differenceForm sizes d ps qs = rw same in
-    let agree = difference-none sizes d ps qs in
+    let e : D ≡ difference_form sizes d ps qs = rw same in
+    let agree = difference_none sizes d ps qs in
     (λ h. agree.0 (sym e ∙ none.0 h), λ h. none.1 (e ∙ agree.1 h))

@@ -7,138 +7,138 @@ use Rattle.std.proofs.lemmas.List.{length-map}
 use borrow.Author.Tests.{leb-true, le-leb, lt-leb}
 use Rattle.selectors.specs.Range.{Range}
 use Rattle.selectors.specs.Value.{number}
-use Rattle.selectors.specs.Words.{value_at, rangesAt}
+use Rattle.selectors.specs.Words.{value_at, ranges_at}
 use Rattle.selectors.specs.WordsLaws.{AllWords}
 use Rattle.selectors.specs.declared.Direction.{Direction}
 use Rattle.normal_form.specs.Search.{Row, row, Combination}
-use Rattle.normal_form.specs.ShapeLaws.{Fits, fits-length, normal-form-fits}
-use Rattle.normal_form.specs.MapLaws.{mapLeaf}
+use Rattle.normal_form.specs.ShapeLaws.{Fits, fits-length, normal_form_fits}
+use Rattle.normal_form.specs.MapLaws.{map_leaf}
 use Rattle.policy.specs.declared.Action.{Action}
 use Rattle.policy.specs.declared.Action.TheVariants.{Discard}
 use Rattle.policy.specs.ActionLaws.{action-≟}
-use Rattle.policy.specs.Policy.{orderedSearch, bothWays}
-use Rattle.policy.specs.PolicyLaws.{searching-both-ways}
-use Rattle.policy.specs.WrittenLaws.{row-exact, AllFive, readRow, written-length, written-rows}
-use Rattle.policy.specs.WordsLaws.{word-action}
-use Rattle.policy.specs.Words.{actionWord, rowWords, rows_from, policyRows, wordsWith, wordsOfAll}
+use Rattle.policy.specs.Policy.{ordered_search, for_both_ways}
+use Rattle.policy.specs.PolicyLaws.{searching-both_ways}
+use Rattle.policy.specs.WrittenLaws.{row_exact, AllFive, read_row, written-length, written_rows}
+use Rattle.policy.specs.WordsLaws.{word_action}
+use Rattle.policy.specs.Words.{action_word, row_words, rows_from, policy_rows, words_with, words_of_all}
 use Rattle.policy_text.specs.declared.Edition.{Edition}
 use Rattle.policy_text.specs.declared.Edition.TheVariants.{One}
-use Rattle.policy_text.specs.Editions.{editionSizes, Rules, rules}
-use Rattle.policy_text.specs.EditionsLaws.{five-fields}
-use Rattle.layout.specs.Parting.{differenceForm}
-use Rattle.layout.specs.PartingLaws.{actionLeaf, difference-empty}
-use Rattle.layout.specs.Decode.{sizesFrom}
-use Rattle.layout.specs.Laid.{laidRow, laidFrom, laidRows, sizesOf, room_for, Outcome}
+use Rattle.policy_text.specs.Editions.{edition_sizes, Rules, rules}
+use Rattle.policy_text.specs.EditionsLaws.{five_fields}
+use Rattle.layout.specs.Parting.{difference_form}
+use Rattle.layout.specs.PartingLaws.{action_leaf, difference_empty}
+use Rattle.layout.specs.Decode.{sizes_from}
+use Rattle.layout.specs.Laid.{laid_row, laid_from, laid_rows, sizes_of, room_for, Outcome}
 use Rattle.layout.specs.declared.Point.{Point}
 use Rattle.layout.specs.declared.Laid.{Laid}
 use Rattle.layout.specs.declared.Laid.TheVariants.{Rows, Over, NoRoom}
 use Rattle.decorrelate.specs.declared.Form.TheVariants.{Rows as FormRows, Over as FormOver}
-use Rattle.decorrelate.specs.Form.{form, formRowWords, formWords, padded, formRoom, formAnswer, formAfter, FormOutcome}
+use Rattle.decorrelate.specs.Form.{form, form_row_words, form_words, padded, form_room, form_answer, form_after, FormOutcome}
 
 -- The fields of IPv4 by their highest values.
-pub ipv4-highest : (p : Point) → p.words ≡ 0 ∷ 4294967295 ∷ 0 ∷ 4294967295 ∷ 0 ∷ 255 ∷ 0 ∷ 65536 ∷ 0 ∷ 65536 ∷ [] → sizesOf p ≡ editionSizes One
-unfolding sizesFrom value_at number
-ipv4-highest p e = rw e
+pub ipv4_highest : (p : Point) → p.words ≡ 0 ∷ 4294967295 ∷ 0 ∷ 4294967295 ∷ 0 ∷ 255 ∷ 0 ∷ 65536 ∷ 0 ∷ 65536 ∷ [] → sizes_of p ≡ edition_sizes One
+unfolding sizes_from value_at number
+ipv4_highest p e = rw e
 
 -- A row that is laid out has its own words.
-laid-exact : (ws : List ℕ) (at : ℕ) (r : Row Action) → AllWords ws → at + rowWords ≤ length ws → laidRow ws at ≡ mapLeaf actionLeaf r
-    → take rowWords (drop at ws) ≡ formRowWords r
-unfolding laidRow
-laid-exact ws at r fit h q =
+laid_exact : (ws : List ℕ) (at : ℕ) (r : Row Action) → AllWords ws → at + row_words ≤ length ws → laid_row ws at ≡ map_leaf action_leaf r
+    → take row_words (drop at ws) ≡ form_row_words r
+unfolding laid_row
+laid_exact ws at r fit h q =
     let second : get_or ws at 0 ≡ 0 = λ i. (q i).leaf.second in
-    let first : get_or ws (at + 1) 0 ≡ actionWord r.leaf = λ i. (q i).leaf.first in
-    let ranges : rangesAt ws (at + 2) ≡ r.ranges = λ i. (q i).ranges in
-    row-exact ws at fit h ∙ λ i. wordsWith (second i) (first i) (ranges i)
+    let first : get_or ws (at + 1) 0 ≡ action_word r.leaf = λ i. (q i).leaf.first in
+    let ranges : ranges_at ws (at + 2) ≡ r.ranges = λ i. (q i).ranges in
+    row_exact ws at fit h ∙ λ i. words_with (second i) (first i) (ranges i)
 
 -- Each row fits fields of these sizes.
 unfoldable AllFit : List ℕ → List (Row Action) → Type 0
 AllFit sizes L = (r : Row Action) → Memᴰ r L → Fits sizes r.ranges
 
-rest-fit : (sizes : List ℕ) (r : Row Action) (L : List (Row Action)) → AllFit sizes (r ∷ L) → AllFit sizes L
+rest_fit : (sizes : List ℕ) (r : Row Action) (L : List (Row Action)) → AllFit sizes (r ∷ L) → AllFit sizes L
 unfolding AllFit
-rest-fit sizes r L f q m = f q (Memᴰ.tail m)
+rest_fit sizes r L f q m = f q (Memᴰ.tail m)
 
 first_fits : (sizes : List ℕ) (r : Row Action) (L : List (Row Action)) → AllFit sizes (r ∷ L) → Fits sizes r.ranges
 unfolding AllFit
 first_fits sizes r L f = f r (Memᴰ.head refl)
 
-form-fits : (d : Direction) (rs : Rules) → AllFit (editionSizes rs.edition) (form d rs)
+form_fits : (d : Direction) (rs : Rules) → AllFit (edition_sizes rs.edition) (form d rs)
 unfolding AllFit
-form-fits d rs r m = (normal-form-fits action-≟ Discard (editionSizes rs.edition) (orderedSearch d rs.entries) r m).0
+form_fits d rs r m = (normal_form_fits action-≟ Discard (edition_sizes rs.edition) (ordered_search d rs.entries) r m).0
 
 -- Rows that are laid out from the row i on have their own words there.
-rows-exact : (ws : List ℕ) (i n : ℕ) (L : List (Row Action)) → AllWords ws → (i + n) * rowWords ≤ length ws
-    → laidFrom ws i n ≡ map (mapLeaf actionLeaf) L → take (n * rowWords) (drop (i * rowWords) ws) ≡ formWords L
-unfolding laidFrom wordsOfAll
-rows-exact ws i zero [] f h e = refl
-rows-exact ws i zero (r ∷ L) f h e = cc
-rows-exact ws i (suc n) [] f h e = cc
-rows-exact ws i (suc n) (r ∷ L) f h e =
-    let first : laidRow ws (i * rowWords) ≡ mapLeaf actionLeaf r = cc in
-    let rest : laidFrom ws (i + 1) n ≡ map (mapLeaf actionLeaf) L = cc in
-    let here : take rowWords (drop (i * rowWords) ws) ≡ formRowWords r = laid-exact ws (i * rowWords) r f (omega arith) first in
-    let more : take (n * rowWords) (drop ((i + 1) * rowWords) ws) ≡ formWords L = rows-exact ws (i + 1) n L f (omega arith) rest in
-    let k : suc n * rowWords ≡ rowWords + n * rowWords = omega arith in
-    let m : i * rowWords + rowWords ≡ (i + 1) * rowWords = omega arith in
+rows_exact : (ws : List ℕ) (i n : ℕ) (L : List (Row Action)) → AllWords ws → (i + n) * row_words ≤ length ws
+    → laid_from ws i n ≡ map (map_leaf action_leaf) L → take (n * row_words) (drop (i * row_words) ws) ≡ form_words L
+unfolding laid_from words_of_all
+rows_exact ws i zero [] f h e = refl
+rows_exact ws i zero (r ∷ L) f h e = cc
+rows_exact ws i (suc n) [] f h e = cc
+rows_exact ws i (suc n) (r ∷ L) f h e =
+    let first : laid_row ws (i * row_words) ≡ map_leaf action_leaf r = cc in
+    let rest : laid_from ws (i + 1) n ≡ map (map_leaf action_leaf) L = cc in
+    let here : take row_words (drop (i * row_words) ws) ≡ form_row_words r = laid_exact ws (i * row_words) r f (omega arith) first in
+    let more : take (n * row_words) (drop ((i + 1) * row_words) ws) ≡ form_words L = rows_exact ws (i + 1) n L f (omega arith) rest in
+    let k : suc n * row_words ≡ row_words + n * row_words = omega arith in
+    let m : i * row_words + row_words ≡ (i + 1) * row_words = omega arith in
     rw (k, take-add, drop-drop, m, here, more)
 
 -- Each row has a range for each field.
 FiveIn : List (Row Action) → Type 0
-FiveIn L = AllFive (Row Action) (λ r. 0) (λ r. actionWord r.leaf) (λ r. r.ranges) L
+FiveIn L = AllFive (Row Action) (λ r. 0) (λ r. action_word r.leaf) (λ r. r.ranges) L
 
-all-five : (e : Edition) (L : List (Row Action)) → AllFit (editionSizes e) L → FiveIn L
+all_five : (e : Edition) (L : List (Row Action)) → AllFit (edition_sizes e) L → FiveIn L
 unfolding FiveIn AllFive
-all-five e [] f = tt
-all-five e (r ∷ L) f =
-    (fits-length (editionSizes e) r.ranges (first_fits (editionSizes e) r L f) ∙ five-fields e, all-five e L (rest-fit (editionSizes e) r L f))
+all_five e [] f = tt
+all_five e (r ∷ L) f =
+    (fits-length (edition_sizes e) r.ranges (first_fits (edition_sizes e) r L f) ∙ five_fields e, all_five e L (rest_fit (edition_sizes e) r L f))
 
-both_ways : (L : List (Row Action)) → map (readRow (Row Action) (λ r. 0) (λ r. actionWord r.leaf) (λ r. r.ranges)) L ≡ map bothWays L
+both_ways : (L : List (Row Action)) → map (read_row (Row Action) (λ r. 0) (λ r. action_word r.leaf) (λ r. r.ranges)) L ≡ map for_both_ways L
 both_ways [] = refl
-both_ways (r ∷ L) = rw (word-action r.leaf, both_ways L)
+both_ways (r ∷ L) = rw (word_action r.leaf, both_ways L)
 
 module _ (d : Direction) (rs : Rules) where
-  pub form-words-length : length (formWords (form d rs)) ≡ length (form d rs) * rowWords
+  pub form_words-length : length (form_words (form d rs)) ≡ length (form d rs) * row_words
   unfolding FiveIn
-  form-words-length = written-length (Row Action) (λ r. 0) (λ r. actionWord r.leaf) (λ r. r.ranges) (form d rs) (all-five rs.edition (form d rs) (form-fits d rs))
+  form_words-length = written-length (Row Action) (λ r. 0) (λ r. action_word r.leaf) (λ r. r.ranges) (form d rs) (all_five rs.edition (form d rs) (form_fits d rs))
 
   -- The words of a normal form are read as its rows, each for both directions.
-  pub form-words-rows : policyRows (formWords (form d rs)) ≡ map bothWays (form d rs)
+  pub form_words_rows : policy_rows (form_words (form d rs)) ≡ map for_both_ways (form d rs)
   unfolding FiveIn
-  form-words-rows =
-      written-rows (Row Action) (λ r. 0) (λ r. actionWord r.leaf) (λ r. r.ranges) (form d rs) (all-five rs.edition (form d rs) (form-fits d rs))
+  form_words_rows =
+      written_rows (Row Action) (λ r. 0) (λ r. action_word r.leaf) (λ r. r.ranges) (form d rs) (all_five rs.edition (form d rs) (form_fits d rs))
       ∙ both_ways (form d rs)
 
   -- Searching them, in whichever direction is asked, is searching the policy in the direction of the normal form.
-  pub form-search : (asked : Direction) (vs : List ℕ) → Combination (editionSizes rs.edition) vs
-      → orderedSearch asked (policyRows (formWords (form d rs))) vs ≡ orderedSearch d rs.entries vs
-  form-search asked vs ok = rw form-words-rows (searching-both-ways (editionSizes rs.edition) d rs.entries asked vs ok)
+  pub form_search : (asked : Direction) (vs : List ℕ) → Combination (edition_sizes rs.edition) vs
+      → ordered_search asked (policy_rows (form_words (form d rs))) vs ≡ ordered_search d rs.entries vs
+  form_search asked vs ok = rw form_words_rows (searching-both_ways (edition_sizes rs.edition) d rs.entries asked vs ok)
 
-no_second : (ws : List ℕ) → policyRows (take 0 ws) ≡ []
+no_second : (ws : List ℕ) → policy_rows (take 0 ws) ≡ []
 unfolding rows_from
 no_second ws = refl
 
 -- What the layout of a policy without a second one leaves is its normal form.
 module _ (limit : ℕ) (d : Direction) (e : Edition) (ws : List ℕ) (highest : Point) (room room' : List ℕ) (r : Laid) where
-  pub form-outcome : AllWords room' → length room' ≡ length room
-      → Outcome limit (differenceForm (sizesOf highest) d (policyRows ws) (policyRows (take 0 ws))) room room' r → sizesOf highest ≡ editionSizes e
-      → FormOutcome limit d (rules e (policyRows ws)) room room' r
-  form-outcome fit whole o sizes = record { answer = answer; words = words; untouched = o.untouched }
+  pub form_outcome : AllWords room' → length room' ≡ length room
+      → Outcome limit (difference_form (sizes_of highest) d (policy_rows ws) (policy_rows (take 0 ws))) room room' r → sizes_of highest ≡ edition_sizes e
+      → FormOutcome limit d (rules e (policy_rows ws)) room room' r
+  form_outcome fit whole o sizes = record { answer = answer; words = words; untouched = o.untouched }
     where
       rs : Rules
-      rs = rules e (policyRows ws)
+      rs = rules e (policy_rows ws)
 
-      same : differenceForm (sizesOf highest) d (policyRows ws) (policyRows (take 0 ws)) ≡ map (mapLeaf actionLeaf) (form d rs)
-      same = rw (sizes, no_second ws) (sym (difference-empty (editionSizes e) d (policyRows ws)))
+      same : difference_form (sizes_of highest) d (policy_rows ws) (policy_rows (take 0 ws)) ≡ map (map_leaf action_leaf) (form d rs)
+      same = rw (sizes, no_second ws) (sym (difference_empty (edition_sizes e) d (policy_rows ws)))
 
-      count : length (differenceForm (sizesOf highest) d (policyRows ws) (policyRows (take 0 ws))) ≡ length (form d rs)
-      count = ap length same ∙ length-map (form d rs) (mapLeaf actionLeaf)
+      count : length (difference_form (sizes_of highest) d (policy_rows ws) (policy_rows (take 0 ws))) ≡ length (form d rs)
+      count = ap length same ∙ length-map (form d rs) (map_leaf action_leaf)
 
       answer : r ≡ cond (leb (room_for limit) (length room)) (cond (leb (length (form d rs)) limit) (Rows (length (form d rs))) Over) NoRoom
       answer = rw count at o.answer
 
       -- The rows are within the limit, and so within the room.
       within : (n : ℕ) (a b : Bool) → leb (room_for limit) (length room) ≡ a → leb (length (form d rs)) limit ≡ b
-          → Rows n ≡ cond a (cond b (Rows (length (form d rs))) Over) NoRoom → n * rowWords ≤ length room'
+          → Rows n ≡ cond a (cond b (Rows (length (form d rs))) Over) NoRoom → n * row_words ≤ length room'
       within n true true p q e =
           let h = leb-true (room_for limit) (length room) p in
           let g = leb-true (length (form d rs)) limit q in
@@ -147,10 +147,10 @@ module _ (limit : ℕ) (d : Direction) (e : Edition) (ws : List ℕ) (highest : 
       within n true false p q e = let z : ◌≡◌ {A = ℕ} 0 1 = cc in absurd (omega arith)
       within n false b p q e = let z : ◌≡◌ {A = ℕ} 0 1 = cc in absurd (omega arith)
 
-      words : (n : ℕ) → r ≡ Rows n → take (n * rowWords) room' ≡ formWords (form d rs)
+      words : (n : ℕ) → r ≡ Rows n → take (n * row_words) room' ≡ form_words (form d rs)
       words n e =
-          let h : n * rowWords ≤ length room' = within n _ _ refl refl (sym e ∙ answer) in
-          rows-exact room' 0 n (form d rs) fit (omega arith) (o.rows n e ∙ same)
+          let h : n * row_words ≤ length room' = within n _ _ refl refl (sym e ∙ answer) in
+          rows_exact room' 0 n (form d rs) fit (omega arith) (o.rows n e ∙ same)
 
 -- What an answer says of the count of the rows, with room for the limit.
 unfoldable pub Counted : ℕ → ℕ → Laid → Type 0
@@ -173,7 +173,7 @@ counted limit count room r enough answer = by (dec_le count limit)
 
 -- What it says of a normal form.
 unfoldable pub Laying : ℕ → Direction → Rules → List ℕ → Laid → Type 0
-Laying limit d rs room' (Rows n) = (n ≤ limit) × (n ≡ length (form d rs)) × (take (n * rowWords) room' ≡ formWords (form d rs))
+Laying limit d rs room' (Rows n) = (n ≤ limit) × (n ≡ length (form d rs)) × (take (n * row_words) room' ≡ form_words (form d rs))
 Laying limit d rs room' Over = limit < length (form d rs)
 Laying limit d rs room' NoRoom = ⊥
 
@@ -190,26 +190,26 @@ laying limit d rs room room' r enough o = by r refl (counted limit (length (form
 -- What an answer makes of a room for `capacity` rows.
 module _ (capacity limit : ℕ) (d : Direction) (rs : Rules) (room ws : List ℕ) where
   pub form-written : (n : ℕ) → Laying limit d rs room (Rows n)
-      → (FormRows n ≡ formAnswer limit d rs) × (padded (capacity * rowWords) (take (n * rowWords) room) ≡ formAfter capacity limit d rs ws)
+      → (FormRows n ≡ form_answer limit d rs) × (padded (capacity * row_words) (take (n * row_words) room) ≡ form_after capacity limit d rs ws)
   unfolding Laying
   form-written n l =
       let e = le-leb (length (form d rs)) limit (omega (arith, l.0, l.1)) in
       (rw (e, l.1), rw (e, l.2))
 
-  pub form-left : Laying limit d rs room Over → (FormOver ≡ formAnswer limit d rs) × (ws ≡ formAfter capacity limit d rs ws)
+  pub form_left : Laying limit d rs room Over → (FormOver ≡ form_answer limit d rs) × (ws ≡ form_after capacity limit d rs ws)
   unfolding Laying
-  form-left l = let e = lt-leb (length (form d rs)) limit l in (rw e, rw e)
+  form_left l = let e = lt-leb (length (form d rs)) limit l in (rw e, rw e)
 
 -- And what that answer says.
 module _ (limit : ℕ) (d : Direction) (rs : Rules) where
-  pub form-within : (n : ℕ) → formAnswer limit d rs ≡ FormRows n
+  pub form_within : (n : ℕ) → form_answer limit d rs ≡ FormRows n
       → (length (form d rs) ≤ limit) × (n ≡ length (form d rs))
-      × ((capacity : ℕ) (ws : List ℕ) → formAfter capacity limit d rs ws ≡ formRoom capacity d rs)
-  form-within n e = by (dec_le (length (form d rs)) limit)
+      × ((capacity : ℕ) (ws : List ℕ) → form_after capacity limit d rs ws ≡ form_room capacity d rs)
+  form_within n e = by (dec_le (length (form d rs)) limit)
     where
       by : Dec (length (form d rs) ≤ limit)
           → (length (form d rs) ≤ limit) × (n ≡ length (form d rs))
-          × ((capacity : ℕ) (ws : List ℕ) → formAfter capacity limit d rs ws ≡ formRoom capacity d rs)
+          × ((capacity : ℕ) (ws : List ℕ) → form_after capacity limit d rs ws ≡ form_room capacity d rs)
       by (yes h) =
           let t = le-leb (length (form d rs)) limit h in
           let a : FormRows (length (form d rs)) ≡ FormRows n = rw t at e in
@@ -219,8 +219,8 @@ module _ (limit : ℕ) (d : Direction) (rs : Rules) where
           let z : ◌≡◌ {A = ℕ} 0 1 = cc in
           absurd (omega arith)
 
-  pub form-over : formAnswer limit d rs ≡ FormOver → limit < length (form d rs)
-  form-over e = by (dec_le (length (form d rs)) limit)
+  pub form_over : form_answer limit d rs ≡ FormOver → limit < length (form d rs)
+  form_over e = by (dec_le (length (form d rs)) limit)
     where
       by : Dec (length (form d rs) ≤ limit) → limit < length (form d rs)
       by (yes h) =

@@ -1,10 +1,10 @@
 // Policies made decorrelated (RFC 4301): the normal form of a policy, and the difference of two (document 01, 'One normal form').
 ghost use Rattle.std.specs.Prelude.{◌≡◌, true, ◌↔◌, ◌≤◌, length, get_or, take};
-ghost use Rattle.policy.specs.Words.{policyRows, rowLimit, policyWords};
-ghost use Rattle.policy_text.specs.Editions.{editionSizes, rules};
-ghost use Rattle.layout.specs.Laid.{sizesOf};
+ghost use Rattle.policy.specs.Words.{policy_rows, row_limit, policy_words};
+ghost use Rattle.policy_text.specs.Editions.{edition_sizes, rules};
+ghost use Rattle.layout.specs.Laid.{sizes_of};
 ghost use Rattle.decorrelate.specs.Agree.{Agree};
-ghost use Rattle.decorrelate.specs.Form.{padded, formAnswer, formAfter, FormOutcome};
+ghost use Rattle.decorrelate.specs.Form.{padded, form_answer, form_after, FormOutcome};
 
 use layout::{Laid, Point, ROOM_WORDS};
 use policy::{LIMIT, POLICY_WORDS, ROW_WORDS};
@@ -28,7 +28,7 @@ pub const IPV4: Point = Point {
 
 // The highest value of each field of an edition.
 fn highest(edition: Edition) -> Point
-    ensures { sizesOf result ≡ editionSizes edition }
+    ensures { sizes_of result ≡ edition_sizes edition }
 {
     match edition {
         Edition::One => IPV4,
@@ -37,7 +37,7 @@ fn highest(edition: Edition) -> Point
 
 // Lays out the normal form of a policy of that edition for a direction: its words stand at the start of the room, and the rest is scratch.
 fn normal_form(edition: Edition, rows: &[u64], direction: Direction, room: &mut [u64]) -> Laid
-    ensures { FormOutcome rowLimit direction (rules edition (policyRows rows.now)) room.old room.new result }
+    ensures { FormOutcome row_limit direction (rules edition (policy_rows rows.now)) room.old room.new result }
 {
     let top = highest(edition);
     layout::layout(rows, &rows[..0], direction, top, LIMIT, room)
@@ -46,15 +46,15 @@ fn normal_form(edition: Edition, rows: &[u64], direction: Direction, room: &mut 
 // The word at a place of the first `used` words of a list with zeros after them.
 fn padded_word(from: &[u64], used: usize, i: usize) -> u64
     requires { used ≤ length from.now }
-    ensures { result ≡ get_or (padded policyWords (take used from.now)) i 0 }
+    ensures { result ≡ get_or (padded policy_words (take used from.now)) i 0 }
 {
     if i < used { from[i] } else { 0 }
 }
 
 // Writes the first `used` words of a list, and zeros after them.
 fn fill(words: &mut [u64], from: &[u64], used: usize)
-    requires { (length words.old ≡ policyWords) × (used ≤ policyWords) × (used ≤ length from.now) }
-    ensures { words.new ≡ padded policyWords (take used from.now) }
+    requires { (length words.old ≡ policy_words) × (used ≤ policy_words) × (used ≤ length from.now) }
+    ensures { words.new ≡ padded policy_words (take used from.now) }
 {
     let mut i: usize = 0;
     while i < POLICY_WORDS {
@@ -71,8 +71,8 @@ pub fn form_of(
     direction: Direction,
     form: &mut [u64; POLICY_WORDS],
 ) -> Form
-    ensures value { result ≡ formAnswer rowLimit direction (rules edition (policyRows rows.now)) }
-    ensures form_after { form.new ≡ formAfter rowLimit rowLimit direction (rules edition (policyRows rows.now)) form.old }
+    ensures value { result ≡ form_answer row_limit direction (rules edition (policy_rows rows.now)) }
+    ensures form_after { form.new ≡ form_after row_limit row_limit direction (rules edition (policy_rows rows.now)) form.old }
 {
     let mut room = [0u64; FORM_ROOM];
     let laid = normal_form(edition, rows, direction, &mut room);
@@ -89,7 +89,7 @@ pub fn form_of(
 // Whether two policies of that edition give every combination the same action in a direction: their difference has no rows. The first one ends
 // the layout.
 pub fn same(edition: Edition, first: &[u64], second: &[u64], direction: Direction) -> bool
-    ensures { (result ≡ true) ↔ Agree (editionSizes edition) direction (policyRows first.now) (policyRows second.now) }
+    ensures { (result ≡ true) ↔ Agree (edition_sizes edition) direction (policy_rows first.now) (policy_rows second.now) }
 {
     let mut room = [0u64; ROOM_WORDS];
     let top = highest(edition);

@@ -1,11 +1,11 @@
 // The gateway's packet calls (document 01, 'Three doors'; docs/RULES.md, 'The three packet calls').
 ghost use Rattle.std.specs.Prelude.{◌≡◌};
-ghost use Rattle.packet.specs.Read.{readTrigger};
-ghost use Rattle.sad.specs.Pairs.{pairs, fitsAt};
-ghost use Rattle.policy.specs.Words.{rowLimit};
+ghost use Rattle.packet.specs.Read.{read_trigger};
+ghost use Rattle.sad.specs.Pairs.{pairs, fits_at};
+ghost use Rattle.policy.specs.Words.{row_limit};
 ghost use Rattle.spd.specs.Words.{rows_of, address_of};
-ghost use Rattle.verdicts.specs.Calls.{triggerRead, fromSaBy};
-ghost use Rattle.gateway.specs.Cached.{outboundCached, inboundCached};
+ghost use Rattle.verdicts.specs.Calls.{trigger_read, from_sa_by};
+ghost use Rattle.gateway.specs.Cached.{outbound_cached, inbound_cached};
 
 use own_ipsec::Own;
 use packet::Reading;
@@ -29,7 +29,7 @@ pub fn outbound(
     cache: Cache,
     bytes: &[u8],
 ) -> Answered
-    ensures { result ≡ outboundCached cache (rows_of rowLimit policy.now Direction.Out) (pairs table.now) bytes.now }
+    ensures { result ≡ outbound_cached cache (rows_of row_limit policy.now Direction.Out) (pairs table.now) bytes.now }
 {
     let reading = packet::read(bytes, Direction::Out);
     let Reading::Readable(packet) = reading else {
@@ -56,7 +56,7 @@ pub fn inbound(
     cache: Cache,
     bytes: &[u8],
 ) -> Answered
-    ensures { result ≡ inboundCached cache (rows_of rowLimit policy.now Direction.In) (address_of policy.now) (pairs table.now) bytes.now }
+    ensures { result ≡ inbound_cached cache (rows_of row_limit policy.now Direction.In) (address_of policy.now) (pairs table.now) bytes.now }
 {
     let reading = packet::read(bytes, Direction::In);
     let Reading::Readable(packet) = reading else {
@@ -81,7 +81,7 @@ pub fn inbound(
 
 // The triggering header of an ICMP error message that came from the association at a place. It is read as going out.
 fn from_trigger(table: &[u64; TABLE_WORDS], place: usize, header: &[u8]) -> Verdict
-    ensures { result ≡ triggerRead (fitsAt table.now place) (readTrigger Direction.Out header.now) }
+    ensures { result ≡ trigger_read (fits_at table.now place) (read_trigger Direction.Out header.now) }
 {
     let reading = packet::read_trigger(header, Direction::Out);
     let Reading::Readable(packet) = reading else {
@@ -95,7 +95,7 @@ fn from_trigger(table: &[u64; TABLE_WORDS], place: usize, header: &[u8]) -> Verd
 
 // A packet coming in from an association: the pair of that protocol and inbound SPI took AH or ESP off. Its place is looked for once.
 pub fn from_sa(table: &[u64; TABLE_WORDS], protocol: u64, spi: u32, bytes: &[u8]) -> Verdict
-    ensures { result ≡ fromSaBy protocol spi (pairs table.now) bytes.now }
+    ensures { result ≡ from_sa_by protocol spi (pairs table.now) bytes.now }
 {
     let found = sad::place_of(table, protocol, spi);
     let Place::At(place) = found else {

@@ -1,10 +1,10 @@
 // The packet calls with the cache lent in place: what `gateway` answers and does to a cache by value, with no copy of it.
 ghost use Rattle.std.specs.Prelude.{◌≡◌};
 ghost use Rattle.sad.specs.Pairs.{pairs};
-ghost use Rattle.policy.specs.Words.{rowLimit};
+ghost use Rattle.policy.specs.Words.{row_limit};
 ghost use Rattle.spd.specs.Words.{rows_of, address_of};
-ghost use Rattle.spd_cache.specs.Lent.{cacheFrom, cacheWords};
-ghost use Rattle.gateway.specs.Cached.{outboundCached, inboundCached};
+ghost use Rattle.spd_cache.specs.Lent.{cache_from, cache_words};
+ghost use Rattle.gateway.specs.Cached.{outbound_cached, inbound_cached};
 
 use own_ipsec::Own;
 use packet::Reading;
@@ -21,8 +21,8 @@ pub fn outbound(
     cache: &mut [u64; CACHE_WORDS],
     bytes: &[u8],
 ) -> Verdict
-    ensures value { result ≡ (outboundCached (cacheFrom cache.old) (rows_of rowLimit policy.now Direction.Out) (pairs table.now) bytes.now).verdict }
-    ensures cache_after { cache.new ≡ cacheWords (outboundCached (cacheFrom cache.old) (rows_of rowLimit policy.now Direction.Out) (pairs table.now) bytes.now).cache }
+    ensures value { result ≡ (outbound_cached (cache_from cache.old) (rows_of row_limit policy.now Direction.Out) (pairs table.now) bytes.now).verdict }
+    ensures cache_after { cache.new ≡ cache_words (outbound_cached (cache_from cache.old) (rows_of row_limit policy.now Direction.Out) (pairs table.now) bytes.now).cache }
 {
     // As a slice the cache has its length in the proof, also where the packet is not readable.
     let lent: &[u64] = cache;
@@ -43,8 +43,8 @@ pub fn inbound(
     cache: &mut [u64; CACHE_WORDS],
     bytes: &[u8],
 ) -> Verdict
-    ensures value { result ≡ (inboundCached (cacheFrom cache.old) (rows_of rowLimit policy.now Direction.In) (address_of policy.now) (pairs table.now) bytes.now).verdict }
-    ensures cache_after { cache.new ≡ cacheWords (inboundCached (cacheFrom cache.old) (rows_of rowLimit policy.now Direction.In) (address_of policy.now) (pairs table.now) bytes.now).cache }
+    ensures value { result ≡ (inbound_cached (cache_from cache.old) (rows_of row_limit policy.now Direction.In) (address_of policy.now) (pairs table.now) bytes.now).verdict }
+    ensures cache_after { cache.new ≡ cache_words (inbound_cached (cache_from cache.old) (rows_of row_limit policy.now Direction.In) (address_of policy.now) (pairs table.now) bytes.now).cache }
 {
     // As a slice the cache has its length in the proof, also where the packet is not readable.
     let lent: &[u64] = cache;

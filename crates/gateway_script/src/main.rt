@@ -18,12 +18,12 @@ mod answers;
 mod fields;
 
 ghost use Rattle.std.specs.Prelude.{◌≡◌, ◌≤◌, ◌<◌};
-ghost use Rattle.policy.specs.Words.{rowLimit};
-ghost use Rattle.policy_text.specs.Editions.{parsePolicy};
+ghost use Rattle.policy.specs.Words.{row_limit};
+ghost use Rattle.policy_text.specs.Editions.{parse_policy};
 ghost use Rattle.sad.specs.Pairs.{pairs};
-ghost use Rattle.acceptance.specs.Spd.{spdAfter, cachesAfter};
+ghost use Rattle.acceptance.specs.Spd.{spd_after, caches_after};
 ghost use Rattle.spd.specs.Words.{rows_of, address_of};
-ghost use Rattle.gateway.specs.Cached.{outboundCached, inboundCached};
+ghost use Rattle.gateway.specs.Cached.{outbound_cached, inbound_cached};
 
 use acceptance::Caches;
 use answers::{say, show_acceptance, show_outcome, show_verdict};
@@ -314,8 +314,8 @@ fn on_bytes(
 }
 
 fn accept(policy: &mut [u64; SPD_WORDS], caches: Caches, bytes: &[u8]) -> Caches
-    ensures value { result ≡ cachesAfter rowLimit caches (parsePolicy rowLimit bytes.now) }
-    ensures policy_after { policy.new ≡ spdAfter rowLimit rowLimit policy.old (parsePolicy rowLimit bytes.now) }
+    ensures value { result ≡ caches_after row_limit caches (parse_policy row_limit bytes.now) }
+    ensures policy_after { policy.new ≡ spd_after row_limit row_limit policy.old (parse_policy row_limit bytes.now) }
 {
     let settled = acceptance::accept(policy, caches, bytes);
     let acceptance = settled.acceptance;
@@ -329,7 +329,7 @@ fn outbound(
     caches: Caches,
     bytes: &[u8],
 ) -> Caches
-    ensures outbound_value { result.outbound ≡ (outboundCached caches.outbound (rows_of rowLimit policy.now Direction.Out) (pairs table.now) bytes.now).cache }
+    ensures outbound_value { result.outbound ≡ (outbound_cached caches.outbound (rows_of row_limit policy.now Direction.Out) (pairs table.now) bytes.now).cache }
     ensures inbound_value { result.inbound ≡ caches.inbound }
 {
     let outbound = caches.outbound;
@@ -350,7 +350,7 @@ fn inbound(
     caches: Caches,
     bytes: &[u8],
 ) -> Caches
-    ensures inbound_value { result.inbound ≡ (inboundCached caches.inbound (rows_of rowLimit policy.now Direction.In) (address_of policy.now) (pairs table.now) bytes.now).cache }
+    ensures inbound_value { result.inbound ≡ (inbound_cached caches.inbound (rows_of row_limit policy.now Direction.In) (address_of policy.now) (pairs table.now) bytes.now).cache }
     ensures outbound_value { result.outbound ≡ caches.outbound }
 {
     let outbound = caches.outbound;

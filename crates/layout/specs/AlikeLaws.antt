@@ -8,92 +8,92 @@ use Rattle.std.proofs.Common.{◌∙◌, length-append, length-take-le, get_or-t
 use Rattle.std.proofs.Math.Bool.{true, false, and_assoc}
 use mathlib.Core.List.{List, [], ◌∷◌, ◌++◌, map}
 use Rattle.selectors.specs.Range.{Range, range, contains, holds}
-use Rattle.selectors.specs.RangeLaws.{contains-in}
+use Rattle.selectors.specs.RangeLaws.{contains_in}
 use Rattle.selectors.specs.Value.{number}
-use Rattle.selectors.specs.Words.{fieldCount, value_at, rangesFrom, value_of}
+use Rattle.selectors.specs.Words.{field_count, value_at, ranges_from, value_of}
 use Rattle.selectors.specs.declared.Direction.{Direction}
 use Rattle.normal_form.specs.Search.{Combination, find}
-use Rattle.normal_form.specs.Laws.{normal-form-ext}
-use Rattle.normal_form.specs.ShapeLaws.{normal-form-empty}
-use Rattle.policy.specs.Policy.{appliesTo, matches, orderedSearch}
-use Rattle.policy.specs.Words.{actionWord, directionOf, row_at, rows_from, policyRows, rowWords, rowLimit}
+use Rattle.normal_form.specs.Laws.{normal_form_ext}
+use Rattle.normal_form.specs.ShapeLaws.{normal_form_empty}
+use Rattle.policy.specs.Policy.{applies_to, matches, ordered_search}
+use Rattle.policy.specs.Words.{action_word, direction_of, row_at, rows_from, policy_rows, row_words, row_limit}
 use Rattle.policy.specs.WordsLaws.{action-word}
-use Rattle.cover.specs.Boxes.{rangesWord, rangesBehind, InBox}
-use Rattle.cover.specs.RangesLaws.{ranges-length, ranges-split}
-use Rattle.agree.specs.Sides.{actionIn, rowBehind, range_of, those, Alike, Cutting}
-use Rattle.layout.specs.Parting.{parting-≟, agreed, partingAt}
-use Rattle.layout.specs.Decode.{sizesFrom, rowRanges, active}
+use Rattle.cover.specs.Boxes.{ranges_word, ranges_behind, InBox}
+use Rattle.cover.specs.RangesLaws.{ranges-length, ranges_split}
+use Rattle.agree.specs.Sides.{action_in, row_behind, range_of, those, Alike, Cutting}
+use Rattle.layout.specs.Parting.{parting-≟, agreed, parting_at}
+use Rattle.layout.specs.Decode.{sizes_from, row_ranges, active}
 use Rattle.layout.specs.DecodeLaws.{active-matches}
-use Rattle.layout.specs.Steps.{formAt, AlikeTo, SearchAlike}
+use Rattle.layout.specs.Steps.{form_at, AlikeTo, SearchAlike}
 use Rattle.layout.specs.FormLaws.{holds-append}
 use Rattle.layout.specs.Lists.{up_from, listed, Lists, AlikeListed, CutsAt}
-use Rattle.layout.specs.ListsLaws.{those-both, active-next, lists-within}
+use Rattle.layout.specs.ListsLaws.{those_both, active-next, lists_within}
 use Rattle.layout.specs.Stretches.{Whole}
 use Rattle.layout.specs.declared.Point.{Point}
 use Rattle.layout.specs.declared.Task.{Task}
 
 -- The box of all values holds every combination.
-holds-tops : (ts us : List ℕ) → Combination (map (λ (t : ℕ). t + 1) ts) us → holds (map (λ (t : ℕ). range 0 t) ts) us ≡ true
+holds_tops : (ts us : List ℕ) → Combination (map (λ (t : ℕ). t + 1) ts) us → holds (map (λ (t : ℕ). range 0 t) ts) us ≡ true
 unfolding Combination holds
-holds-tops [] [] c = refl
-holds-tops [] (u ∷ us) c = absurd c
-holds-tops (t ∷ ts) [] c = absurd c
-holds-tops (t ∷ ts) (u ∷ us) c = rw (contains-in (range 0 t) u (omega arith) (omega (arith, c.0))) (holds-tops ts us c.1)
+holds_tops [] [] c = refl
+holds_tops [] (u ∷ us) c = absurd c
+holds_tops (t ∷ ts) [] c = absurd c
+holds_tops (t ∷ ts) (u ∷ us) c = rw (contains_in (range 0 t) u (omega arith) (omega (arith, c.0))) (holds_tops ts us c.1)
 
 -- The search behind values of the first fields looks at the rows that are active there.
-module _ (d : Direction) (ws : List ℕ) (f : ℕ) (before : List ℕ) (e : length before ≡ f) (h : f ≤ fieldCount) where
+module _ (d : Direction) (ws : List ℕ) (f : ℕ) (before : List ℕ) (e : length before ≡ f) (h : f ≤ field_count) where
   matches-behind : (i : ℕ) (us : List ℕ)
-      → matches d (row_at ws (i * rowWords)) (before ++ us) ≡ (active d ws i f before && holds (rangesBehind ws (rangesWord i) f) us)
+      → matches d (row_at ws (i * row_words)) (before ++ us) ≡ (active d ws i f before && holds (ranges_behind ws (ranges_word i) f) us)
   unfolding active
   matches-behind i us =
-      let k : fieldCount ≡ f + (fieldCount - f) = omega arith in
+      let k : field_count ≡ f + (field_count - f) = omega arith in
       let z : 0 + f ≡ f = omega arith in
       sym (active-matches d ws i (before ++ us))
-      ∙ ap (appliesTo (directionOf (get_or ws (i * rowWords) 0)) d &&◌)
-      (ap (λ (n : ℕ). holds (rowRanges ws i 0 n) (before ++ us)) k
-      ∙ ap (λ (rs : List Range). holds rs (before ++ us)) (ranges-split ws (rangesWord i) 0 f (fieldCount - f))
-      ∙ ap (λ (g : ℕ). holds (rowRanges ws i 0 f ++ rowRanges ws i g (fieldCount - f)) (before ++ us)) z
-      ∙ holds-append (rowRanges ws i 0 f) (rowRanges ws i f (fieldCount - f)) before us (ranges-length ws (rangesWord i) 0 f ∙ sym e))
-      ∙ sym (and_assoc (appliesTo (directionOf (get_or ws (i * rowWords) 0)) d) (holds (rowRanges ws i 0 f) before) (holds (rangesBehind ws (rangesWord i) f) us))
+      ∙ ap (applies_to (direction_of (get_or ws (i * row_words) 0)) d &&◌)
+      (ap (λ (n : ℕ). holds (row_ranges ws i 0 n) (before ++ us)) k
+      ∙ ap (λ (rs : List Range). holds rs (before ++ us)) (ranges_split ws (ranges_word i) 0 f (field_count - f))
+      ∙ ap (λ (g : ℕ). holds (row_ranges ws i 0 f ++ row_ranges ws i g (field_count - f)) (before ++ us)) z
+      ∙ holds-append (row_ranges ws i 0 f) (row_ranges ws i f (field_count - f)) before us (ranges-length ws (ranges_word i) 0 f ∙ sym e))
+      ∙ sym (and_assoc (applies_to (direction_of (get_or ws (i * row_words) 0)) d) (holds (row_ranges ws i 0 f) before) (holds (ranges_behind ws (ranges_word i) f) us))
 
   search-behind : (us : List ℕ) (i n : ℕ)
-      → actionWord (orderedSearch d (rows_from ws i n) (before ++ us))
-      ≡ find 0 (map (rowBehind ws f) (those (λ j. active d ws j f before) (up_from i n))) us
-  unfolding orderedSearch rows_from row_at those up_from find
+      → action_word (ordered_search d (rows_from ws i n) (before ++ us))
+      ≡ find 0 (map (row_behind ws f) (those (λ j. active d ws j f before) (up_from i n))) us
+  unfolding ordered_search rows_from row_at those up_from find
   search-behind us i zero = refl
   search-behind us i (suc n) =
       rw (matches-behind i us)
-      (by (active d ws i f before) (holds (rangesBehind ws (rangesWord i) f) us) refl refl (search-behind us (suc i) n))
+      (by (active d ws i f before) (holds (ranges_behind ws (ranges_word i) f) us) refl refl (search-behind us (suc i) n))
     where
-      by : (a b : Bool) → active d ws i f before ≡ a → holds (rangesBehind ws (rangesWord i) f) us ≡ b
-          → actionWord (orderedSearch d (rows_from ws (suc i) n) (before ++ us))
-          ≡ find 0 (map (rowBehind ws f) (those (λ j. active d ws j f before) (up_from (suc i) n))) us
-          → actionWord (cond (active d ws i f before && holds (rangesBehind ws (rangesWord i) f) us) (row_at ws (i * rowWords)).action (orderedSearch d (rows_from ws (suc i) n) (before ++ us)))
-          ≡ find 0 (map (rowBehind ws f) (cond (active d ws i f before) (i ∷ those (λ j. active d ws j f before) (up_from (suc i) n)) (those (λ j. active d ws j f before) (up_from (suc i) n)))) us
-      by true true p q ih = rw (p, q) (action-word (actionIn ws i))
+      by : (a b : Bool) → active d ws i f before ≡ a → holds (ranges_behind ws (ranges_word i) f) us ≡ b
+          → action_word (ordered_search d (rows_from ws (suc i) n) (before ++ us))
+          ≡ find 0 (map (row_behind ws f) (those (λ j. active d ws j f before) (up_from (suc i) n))) us
+          → action_word (cond (active d ws i f before && holds (ranges_behind ws (ranges_word i) f) us) (row_at ws (i * row_words)).action (ordered_search d (rows_from ws (suc i) n) (before ++ us)))
+          ≡ find 0 (map (row_behind ws f) (cond (active d ws i f before) (i ∷ those (λ j. active d ws j f before) (up_from (suc i) n)) (those (λ j. active d ws j f before) (up_from (suc i) n)))) us
+      by true true p q ih = rw (p, q) (action-word (action_in ws i))
       by true false p q ih = rw (p, q) ih
       by false b p q ih = rw p ih
 
   -- The rows of a list that has just these.
-  pub search-listed : length ws / rowWords ≤ rowLimit → (xs : List ℕ) → xs ≡ those (λ j. active d ws j f before) (up_from 0 (listed ws)) → (us : List ℕ)
-      → actionWord (orderedSearch d (policyRows ws) (before ++ us)) ≡ find 0 (map (rowBehind ws f) xs) us
+  pub search-listed : length ws / row_words ≤ row_limit → (xs : List ℕ) → xs ≡ those (λ j. active d ws j f before) (up_from 0 (listed ws)) → (us : List ℕ)
+      → action_word (ordered_search d (policy_rows ws) (before ++ us)) ≡ find 0 (map (row_behind ws f) xs) us
   search-listed g xs q us =
-      search-behind us 0 (length ws / rowWords)
-      ∙ ap (λ (n : ℕ). find 0 (map (rowBehind ws f) (those (λ j. active d ws j f before) (up_from 0 n))) us) (sym (min-eq_left g))
-      ∙ ap (λ (ys : List ℕ). find 0 (map (rowBehind ws f) ys) us) (sym q)
+      search-behind us 0 (length ws / row_words)
+      ∙ ap (λ (n : ℕ). find 0 (map (row_behind ws f) (those (λ j. active d ws j f before) (up_from 0 n))) us) (sym (min-eq_left g))
+      ∙ ap (λ (ys : List ℕ). find 0 (map (row_behind ws f) ys) us) (sym q)
 
 -- Rows that are enough to part the values of a field for a list of the active rows are enough for the policy.
-pub cuts-at : (d : Direction) (ws : List ℕ) (f : ℕ) (before : List ℕ) → length before ≡ f → f < fieldCount → (list : List ℕ) (m : ℕ) → Lists d ws f before list m
+pub cuts_at : (d : Direction) (ws : List ℕ) (f : ℕ) (before : List ℕ) → length before ≡ f → f < field_count → (list : List ℕ) (m : ℕ) → Lists d ws f before list m
     → (cuts : List ℕ) (n : ℕ) → Cutting ws (take m list) f cuts n → CutsAt d ws f before cuts n
 unfolding AlikeListed AlikeTo SearchAlike
-cuts-at d ws f before e h list m t cuts n c = record {
+cuts_at d ws f before e h list m t cuts n c = record {
   within = record {
     sized = c.sized;
     fits = c.fits;
     places = λ k g.
         let o = c.among k g in
         let j : o.place < m = omega (arith, o.below, length-take-le m list (omega (arith, t.sized, t.fits))) in
-        omega (arith, o.same ∙ get_or-take m list o.place 0 j, (lists-within d ws f before list m t).places o.place j);
+        omega (arith, o.same ∙ get_or-take m list o.place 0 j, (lists_within d ws f before list m t).places o.place j);
   };
   alike = λ few from last a u p q us.
       search-listed d ws f before e (omega arith) few (take m list) t.rows (u ∷ us)
@@ -102,21 +102,21 @@ cuts-at d ws f before e h list m t cuts n c = record {
 }
 
 -- A list that is narrowed to a value has the rows that are active behind it.
-narrowed-list : (d : Direction) (ws : List ℕ) (f : ℕ) (before : List ℕ) → length before ≡ f → (v : ℕ) (list : List ℕ) (n : ℕ) → Lists d ws f before list n
+narrowed_list : (d : Direction) (ws : List ℕ) (f : ℕ) (before : List ℕ) → length before ≡ f → (v : ℕ) (list : List ℕ) (n : ℕ) → Lists d ws f before list n
     → those (λ i. contains (range_of ws i f) v) (take n list) ≡ those (λ j. active d ws j (f + 1) (before ++ v ∷ [])) (up_from 0 (listed ws))
-narrowed-list d ws f before e v list n t = ap (those _) t.rows ∙ sym (those-both _ _ _ (active-next d ws f before e v) _)
+narrowed_list d ws f before e v list n t = ap (those _) t.rows ∙ sym (those_both _ _ _ (active-next d ws f before e v) _)
 
 longer : (before : List ℕ) (v f : ℕ) → length before ≡ f → length (before ++ v ∷ []) ≡ f + 1
 longer before v f e = length-append before (v ∷ []) ∙ ap (λ (n : ℕ). n + 1) e
 
 module _ (first second : List ℕ) (task : Task) (f : ℕ) (before : List ℕ) (e : length before ≡ f) (bs : List ℕ) (whole : Whole task.highest bs)
-    (few : length first / rowWords ≤ rowLimit) (few' : length second / rowWords ≤ rowLimit)
+    (few : length first / row_words ≤ row_limit) (few' : length second / row_words ≤ row_limit)
     (xs ys : List ℕ) (n m : ℕ) (s : Lists task.direction first f before xs n) (t : Lists task.direction second f before ys m) where
   -- Policies that agree behind a point: nothing is laid out there.
-  pub alike-empty : f ≤ fieldCount → Alike f bs first (take n xs) second (take m ys) → formAt first second task before f (fieldCount - f) ≡ []
-  unfolding Alike Whole partingAt
-  alike-empty h a =
-      (normal-form-empty parting-≟ agreed (sizesFrom task.highest.words f (fieldCount - f)) (λ us. partingAt task.direction (policyRows first) (policyRows second) (before ++ us))).1
+  pub alike_empty : f ≤ field_count → Alike f bs first (take n xs) second (take m ys) → form_at first second task before f (field_count - f) ≡ []
+  unfolding Alike Whole parting_at
+  alike_empty h a =
+      (normal_form_empty parting-≟ agreed (sizes_from task.highest.words f (field_count - f)) (λ us. parting_at task.direction (policy_rows first) (policy_rows second) (before ++ us))).1
       (λ us ok.
       rw (eq-eqb _ _
       (search-listed task.direction first f before e h few (take n xs) s.rows us
@@ -124,47 +124,47 @@ module _ (first second : List ℕ) (task : Task) (f : ℕ) (before : List ℕ) (
       ∙ sym (search-listed task.direction second f before e h few' (take m ys) t.rows us))))
 
   -- A policy that treats two values of a field alike: so do the searches behind them.
-  joined-search : (ws list : List ℕ) (k : ℕ) → length ws / rowWords ≤ rowLimit → Lists task.direction ws f before list k → f + 1 ≤ fieldCount → (u v : ℕ)
+  joined_search : (ws list : List ℕ) (k : ℕ) → length ws / row_words ≤ row_limit → Lists task.direction ws f before list k → f + 1 ≤ field_count → (u v : ℕ)
       → Alike (f + 1) bs ws (those (λ i. contains (range_of ws i f) u) (take k list)) ws (those (λ i. contains (range_of ws i f) v) (take k list))
-      → (us : List ℕ) → Combination (sizesFrom task.highest.words (f + 1) (fieldCount - (f + 1))) us
-      → actionWord (orderedSearch task.direction (policyRows ws) ((before ++ v ∷ []) ++ us))
-      ≡ actionWord (orderedSearch task.direction (policyRows ws) ((before ++ u ∷ []) ++ us))
+      → (us : List ℕ) → Combination (sizes_from task.highest.words (f + 1) (field_count - (f + 1))) us
+      → action_word (ordered_search task.direction (policy_rows ws) ((before ++ v ∷ []) ++ us))
+      ≡ action_word (ordered_search task.direction (policy_rows ws) ((before ++ u ∷ []) ++ us))
   unfolding Alike Whole
-  joined-search ws list k g l h u v a us ok =
-      search-listed task.direction ws (f + 1) (before ++ v ∷ []) (longer before v f e) h g _ (narrowed-list task.direction ws f before e v list k l) us
+  joined_search ws list k g l h u v a us ok =
+      search-listed task.direction ws (f + 1) (before ++ v ∷ []) (longer before v f e) h g _ (narrowed_list task.direction ws f before e v list k l) us
       ∙ sym (a us (whole (f + 1) us ok))
-      ∙ sym (search-listed task.direction ws (f + 1) (before ++ u ∷ []) (longer before u f e) h g _ (narrowed-list task.direction ws f before e u list k l) us)
+      ∙ sym (search-listed task.direction ws (f + 1) (before ++ u ∷ []) (longer before u f e) h g _ (narrowed_list task.direction ws f before e u list k l) us)
 
   -- Both policies treat two values of the field alike: the same is laid out behind them.
-  pub alike-joined : f + 1 ≤ fieldCount → (u v : ℕ)
+  pub alike_joined : f + 1 ≤ field_count → (u v : ℕ)
       → Alike (f + 1) bs first (those (λ i. contains (range_of first i f) u) (take n xs)) first (those (λ i. contains (range_of first i f) v) (take n xs))
       → Alike (f + 1) bs second (those (λ i. contains (range_of second i f) u) (take m ys)) second (those (λ i. contains (range_of second i f) v) (take m ys))
-      → formAt first second task (before ++ v ∷ []) (f + 1) (fieldCount - (f + 1)) ≡ formAt first second task (before ++ u ∷ []) (f + 1) (fieldCount - (f + 1))
-  unfolding partingAt
-  alike-joined h u v a b =
-      normal-form-ext parting-≟ agreed (sizesFrom task.highest.words (f + 1) (fieldCount - (f + 1))) _ _
-      (λ us ok. rw (joined-search first xs n few s h u v a us ok, joined-search second ys m few' t h u v b us ok))
+      → form_at first second task (before ++ v ∷ []) (f + 1) (field_count - (f + 1)) ≡ form_at first second task (before ++ u ∷ []) (f + 1) (field_count - (f + 1))
+  unfolding parting_at
+  alike_joined h u v a b =
+      normal_form_ext parting-≟ agreed (sizes_from task.highest.words (f + 1) (field_count - (f + 1))) _ _
+      (λ us ok. rw (joined_search first xs n few s h u v a us ok, joined_search second ys m few' t h u v b us ok))
 
 -- The box of all values.
 module _ (hs : List ℕ) where
   tops : ℕ → List ℕ
   tops f = drop f (value_of hs 0 ∷ value_of hs 1 ∷ value_of hs 2 ∷ value_of hs 3 ∷ value_of hs 4 ∷ [])
 
-  abbrev allWords : List ℕ
-  allWords =
+  abbrev every_word : List ℕ
+  every_word =
       0 ∷ 0 ∷ get_or hs 0 0 ∷ get_or hs 1 0 ∷ 0 ∷ 0 ∷ get_or hs 2 0 ∷ get_or hs 3 0 ∷ 0 ∷ 0 ∷ get_or hs 4 0 ∷ get_or hs 5 0
       ∷ 0 ∷ 0 ∷ get_or hs 6 0 ∷ get_or hs 7 0 ∷ 0 ∷ 0 ∷ get_or hs 8 0 ∷ get_or hs 9 0 ∷ []
 
-  all-values : (f : ℕ) (us : List ℕ) → Combination (sizesFrom hs f (fieldCount - f)) us → InBox f allWords us
-  unfolding sizesFrom rangesFrom value_at number tops
-  all-values zero us c = holds-tops (tops 0) us c
-  all-values (suc zero) us c = holds-tops (tops 1) us c
-  all-values (suc (suc zero)) us c = holds-tops (tops 2) us c
-  all-values (suc (suc (suc zero))) us c = holds-tops (tops 3) us c
-  all-values (suc (suc (suc (suc zero)))) us c = holds-tops (tops 4) us c
-  all-values (suc (suc (suc (suc (suc f))))) us c =
-      let z : fieldCount - suc (suc (suc (suc (suc f)))) ≡ 0 = omega arith in rw z (holds-tops [] us (rw z at c))
+  all_values : (f : ℕ) (us : List ℕ) → Combination (sizes_from hs f (field_count - f)) us → InBox f every_word us
+  unfolding sizes_from ranges_from value_at number tops
+  all_values zero us c = holds_tops (tops 0) us c
+  all_values (suc zero) us c = holds_tops (tops 1) us c
+  all_values (suc (suc zero)) us c = holds_tops (tops 2) us c
+  all_values (suc (suc (suc zero))) us c = holds_tops (tops 3) us c
+  all_values (suc (suc (suc (suc zero)))) us c = holds_tops (tops 4) us c
+  all_values (suc (suc (suc (suc (suc f))))) us c =
+      let z : field_count - suc (suc (suc (suc (suc f)))) ≡ 0 = omega arith in rw z (holds_tops [] us (rw z at c))
 
-pub whole-box : (highest : Point) (bs : List ℕ) → bs ≡ allWords highest.words → Whole highest bs
+pub whole_box : (highest : Point) (bs : List ℕ) → bs ≡ every_word highest.words → Whole highest bs
 unfolding Whole
-whole-box highest bs e f us c = rw e (all-values highest.words f us c)
+whole_box highest bs e f us c = rw e (all_values highest.words f us c)

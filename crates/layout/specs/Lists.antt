@@ -1,9 +1,9 @@
 -- Lists of the rows that are active. Assumes nothing: these are definitions.
 use Rattle.std.specs.Prelude.{ℕ, zero, suc, ◌*◌, ◌/◌, ◌≤◌, ◌<◌, min, ◌≡◌, List, [], ◌∷◌, length, get_or, take}
 use Rattle.selectors.specs.Range.{contains}
-use Rattle.selectors.specs.Words.{fieldCount, valueWords, valuesFrom}
+use Rattle.selectors.specs.Words.{field_count, value_words, values_from}
 use Rattle.selectors.specs.declared.Direction.{Direction}
-use Rattle.policy.specs.Words.{rowWords, rowLimit}
+use Rattle.policy.specs.Words.{row_words, row_limit}
 use Rattle.agree.specs.Sides.{range_of, those, There, Takes}
 use Rattle.layout.specs.Decode.{active}
 use Rattle.layout.specs.Steps.{AlikeTo, SearchAlike}
@@ -16,7 +16,7 @@ up_from i (suc n) = i ∷ up_from (suc i) n
 
 -- How many rows of a policy are listed.
 abbrev pub listed : List ℕ → ℕ
-listed ws = min (length ws / rowWords) rowLimit
+listed ws = min (length ws / row_words) row_limit
 
 -- The first n numbers of a list are, in order, the listed rows of a policy that are active.
 abbrev pub Lists : Direction → List ℕ → ℕ → List ℕ → List ℕ → ℕ → Type 0
@@ -32,12 +32,12 @@ AlikeListed ws xs n f from last = (k : ℕ) → k < n → AlikeTo (range_of ws (
 
 -- A branch at the field f: the lists have the rows that are active at its point.
 pub record BranchAt (d : Direction) (first second : List ℕ) (f : ℕ) (b : Branch) (xs ys : List ℕ) : Type 0 where
-  pub sized : length b.point.words ≡ fieldCount * valueWords
-  pub of-first : Lists d first f (valuesFrom b.point.words 0 f) xs b.firsts
-  pub of-second : Lists d second f (valuesFrom b.point.words 0 f) ys b.seconds
+  pub sized : length b.point.words ≡ field_count * value_words
+  pub of-first : Lists d first f (values_from b.point.words 0 f) xs b.firsts
+  pub of-second : Lists d second f (values_from b.point.words 0 f) ys b.seconds
 
 -- The first n numbers of a list are places of rows, and behind the values of the first fields no others part two values of the field f, if no
 -- more rows are there than are listed.
 pub record CutsAt (d : Direction) (ws : List ℕ) (f : ℕ) (before cuts : List ℕ) (n : ℕ) : Type 0 where
   pub within : There ws cuts n
-  pub alike : length ws / rowWords ≤ rowLimit → (from last : ℕ) → AlikeListed ws cuts n f from last → SearchAlike d ws before from last
+  pub alike : length ws / row_words ≤ row_limit → (from last : ℕ) → AlikeListed ws cuts n f from last → SearchAlike d ws before from last

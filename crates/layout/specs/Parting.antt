@@ -4,9 +4,9 @@ use Rattle.std.specs.Prelude.{ℕ, ◌≡◌, cond, List, eqb}
 use Rattle.std.proofs.Math.Decide.{ℕ_discrete}
 use Rattle.selectors.specs.declared.Direction.{Direction}
 use Rattle.normal_form.specs.Search.{Row}
-use Rattle.normal_form.specs.NormalForm.{normalForm}
-use Rattle.policy.specs.Policy.{PolicyRow, orderedSearch}
-use Rattle.policy.specs.Words.{actionWord}
+use Rattle.normal_form.specs.NormalForm.{normal_form}
+use Rattle.policy.specs.Policy.{PolicyRow, ordered_search}
+use Rattle.policy.specs.Words.{action_word}
 
 -- The words of the actions under a first and a second policy.
 pub record Parting : Type 0 where
@@ -32,9 +32,9 @@ agreed = parting 0 0
 abbrev pub parted : ℕ → ℕ → Parting
 parted a b = cond (eqb a b) agreed (parting a b)
 
-unfoldable pub partingAt : Direction → List PolicyRow → List PolicyRow → List ℕ → Parting
-partingAt d first second vs = parted (actionWord (orderedSearch d first vs)) (actionWord (orderedSearch d second vs))
+unfoldable pub parting_at : Direction → List PolicyRow → List PolicyRow → List ℕ → Parting
+parting_at d first second vs = parted (action_word (ordered_search d first vs)) (action_word (ordered_search d second vs))
 
 -- The difference of two policies for one direction, over fields of these sizes.
-abbrev pub differenceForm : List ℕ → Direction → List PolicyRow → List PolicyRow → List (Row Parting)
-differenceForm sizes d first second = normalForm parting-≟ agreed sizes (partingAt d first second)
+abbrev pub difference_form : List ℕ → Direction → List PolicyRow → List PolicyRow → List (Row Parting)
+difference_form sizes d first second = normal_form parting-≟ agreed sizes (parting_at d first second)

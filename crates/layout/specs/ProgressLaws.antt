@@ -9,19 +9,19 @@ use Rattle.std.proofs.Math.Path.{ap}
 use Rattle.std.proofs.lemmas.Bool.{false≢true, lt-leb}
 use Rattle.std.proofs.Math.ListN.{get_or-append}
 use Rattle.selectors.specs.Value.{number}
-use Rattle.selectors.specs.Words.{fieldCount, valueWords, value_of, valuesFrom}
+use Rattle.selectors.specs.Words.{field_count, value_words, value_of, values_from}
 use Rattle.selectors.specs.declared.Value.{Value}
 use Rattle.normal_form.specs.Search.{Row}
 use Rattle.normal_form.specs.NormalForm.{rows_of, runs}
-use Rattle.policy.specs.Words.{rowWords}
+use Rattle.policy.specs.Words.{row_words}
 use Rattle.cover.specs.RangesLaws.{written}
 use Rattle.layout.specs.Parting.{Parting, parting-≟}
-use Rattle.layout.specs.Decode.{sizesFrom, partRows}
-use Rattle.layout.specs.DecodeLaws.{rows-moved, rows-length}
-use Rattle.layout.specs.Steps.{formAt, wordsFor, LaidOut, SearchAlike, Stamped, Merged, Begun, Placed}
-use Rattle.layout.specs.StepsLaws.{stamped-done, laid-rows, laid-over, words-next}
-use Rattle.layout.specs.FormLaws.{form-field, form-alike, values-with}
-use Rattle.layout.specs.TurnLaws.{Reached, reached-start, reached-rows, reached-length, reached-merged, reached-again, reached-begun, rows_grow, layout-within}
+use Rattle.layout.specs.Decode.{sizes_from, part_rows}
+use Rattle.layout.specs.DecodeLaws.{rows_moved, rows-length}
+use Rattle.layout.specs.Steps.{form_at, words_for, LaidOut, SearchAlike, Stamped, Merged, Begun, Placed}
+use Rattle.layout.specs.StepsLaws.{stamped_done, laid-rows, laid_over, words-next}
+use Rattle.layout.specs.FormLaws.{form-field, form_alike, values_with}
+use Rattle.layout.specs.TurnLaws.{Reached, reached_start, reached_rows, reached-length, reached_merged, reached_again, reached_begun, rows_grow, layout_within}
 use Rattle.layout.specs.Stretches.{is_over, Joins, StretchOut, PlacedStretch}
 use Rattle.layout.specs.declared.Kept.{Kept}
 use Rattle.layout.specs.declared.Task.{Task}
@@ -32,108 +32,108 @@ use Rattle.layout.specs.declared.Stretch.TheVariants.{Rows as StretchRows, Again
 
 module _ (first second : List ℕ) (task : Task) (before : List ℕ) (f : ℕ) where
   -- The layout behind the value v of the field f.
-  abbrev pub layoutAt : ℕ → List (Row Parting)
-  layoutAt v = formAt first second task (before ++ v ∷ []) (f + 1) (fieldCount - (f + 1))
+  abbrev pub layout_at : ℕ → List (Row Parting)
+  layout_at v = form_at first second task (before ++ v ∷ []) (f + 1) (field_count - (f + 1))
 
   -- The loop has come to the value v.
   pub record Progress (ws : List ℕ) (kept : Kept) (v : ℕ) : Type 0 where
     pub ordered : kept.last ≤ kept.next
-    pub reached : Reached parting-≟ layoutAt v (partRows f (suc (fieldCount - (f + 1))) ws 0 kept.last)
-        (partRows (f + 1) (fieldCount - (f + 1)) ws kept.last (kept.next - kept.last)) (number kept.low)
+    pub reached : Reached parting-≟ layout_at v (part_rows f (suc (field_count - (f + 1))) ws 0 kept.last)
+        (part_rows (f + 1) (field_count - (f + 1)) ws kept.last (kept.next - kept.last)) (number kept.low)
 
   pub progress_start : (ws : List ℕ) (kept : Kept) (v : ℕ) → kept.last ≡ 0 → kept.next ≡ 0 → v ≡ 0 → Progress ws kept v
-  unfolding partRows
-  progress_start ws kept v p q e = record { ordered = omega arith; reached = rw (p, q, e) (reached-start parting-≟ layoutAt (number kept.low)) }
+  unfolding part_rows
+  progress_start ws kept v p q e = record { ordered = omega arith; reached = rw (p, q, e) (reached_start parting-≟ layout_at (number kept.low)) }
 
   -- The form, by the intervals of the field's values.
-  form-next : f < fieldCount → formAt first second task before f (fieldCount - f) ≡ rows_of (runs parting-≟ layoutAt (value_of task.highest.words f + 1))
-  unfolding sizesFrom
+  form-next : f < field_count → form_at first second task before f (field_count - f) ≡ rows_of (runs parting-≟ layout_at (value_of task.highest.words f + 1))
+  unfolding sizes_from
   form-next h =
-      let e : fieldCount - f ≡ suc (fieldCount - (f + 1)) = omega arith in
-      ap (formAt first second task before f) e ∙ form-field _ _ _ before _ _
+      let e : field_count - f ≡ suc (field_count - (f + 1)) = omega arith in
+      ap (form_at first second task before f) e ∙ form-field _ _ _ before _ _
 
   -- A layout behind a value over the limit, and rows over the limit so far: the form is over the limit.
-  pub over-behind : f < fieldCount → (limit v : ℕ) → v ≤ value_of task.highest.words f → limit < length (layoutAt v) → (ws : List ℕ)
-      → LaidOut limit f (fieldCount - f) (formAt first second task before f (fieldCount - f)) ws Over
+  pub over-behind : f < field_count → (limit v : ℕ) → v ≤ value_of task.highest.words f → limit < length (layout_at v) → (ws : List ℕ)
+      → LaidOut limit f (field_count - f) (form_at first second task before f (field_count - f)) ws Over
   over-behind h limit v g o ws =
-      laid-over limit f (fieldCount - f) _ ws
-      (rw (form-next h) (omega (arith, layout-within parting-≟ layoutAt v (value_of task.highest.words f + 1) (omega arith))))
+      laid_over limit f (field_count - f) _ ws
+      (rw (form-next h) (omega (arith, layout_within parting-≟ layout_at v (value_of task.highest.words f + 1) (omega arith))))
 
-  length_so_far : (ws : List ℕ) (kept : Kept) (v : ℕ) → Progress ws kept v → length (rows_of (runs parting-≟ layoutAt v)) ≡ kept.next
+  length_so_far : (ws : List ℕ) (kept : Kept) (v : ℕ) → Progress ws kept v → length (rows_of (runs parting-≟ layout_at v)) ≡ kept.next
   length_so_far ws kept v p =
-      reached-length parting-≟ layoutAt v _ _ _ p.reached ∙ rw (rows-length, rows-length) (omega (arith, p.ordered))
+      reached-length parting-≟ layout_at v _ _ _ p.reached ∙ rw (rows-length, rows-length) (omega (arith, p.ordered))
 
-  pub over-so-far : f < fieldCount → (limit : ℕ) (ws : List ℕ) (kept : Kept) (v : ℕ) → Progress ws kept v → v ≤ value_of task.highest.words f + 1 → limit < kept.next
-      → (ws' : List ℕ) → LaidOut limit f (fieldCount - f) (formAt first second task before f (fieldCount - f)) ws' Over
-  over-so-far h limit ws kept v p g o ws' =
-      laid-over limit f (fieldCount - f) _ ws'
-      (rw (form-next h) (omega (arith, length_so_far ws kept v p, rows_grow parting-≟ layoutAt v (value_of task.highest.words f + 1) g)))
+  pub over_so_far : f < field_count → (limit : ℕ) (ws : List ℕ) (kept : Kept) (v : ℕ) → Progress ws kept v → v ≤ value_of task.highest.words f + 1 → limit < kept.next
+      → (ws' : List ℕ) → LaidOut limit f (field_count - f) (form_at first second task before f (field_count - f)) ws' Over
+  over_so_far h limit ws kept v p g o ws' =
+      laid_over limit f (field_count - f) _ ws'
+      (rw (form-next h) (omega (arith, length_so_far ws kept v p, rows_grow parting-≟ layout_at v (value_of task.highest.words f + 1) g)))
 
   -- The last interval ends with the field: all is laid out.
-  pub laid_out : f < fieldCount → (limit : ℕ) (ws ws' : List ℕ) (kept : Kept) (top : ℕ) → top ≡ value_of task.highest.words f → Progress ws kept (top + 1) → kept.next ≤ limit
-      → Stamped f (fieldCount - (f + 1)) kept.last kept.next (number kept.low) top ws ws'
-      → LaidOut limit f (fieldCount - f) (formAt first second task before f (fieldCount - f)) ws' (Rows kept.next)
+  pub laid_out : f < field_count → (limit : ℕ) (ws ws' : List ℕ) (kept : Kept) (top : ℕ) → top ≡ value_of task.highest.words f → Progress ws kept (top + 1) → kept.next ≤ limit
+      → Stamped f (field_count - (f + 1)) kept.last kept.next (number kept.low) top ws ws'
+      → LaidOut limit f (field_count - f) (form_at first second task before f (field_count - f)) ws' (Rows kept.next)
   laid_out h limit ws ws' kept top e p g s =
-      let k : fieldCount - f ≡ suc (fieldCount - (f + 1)) = omega arith in
+      let k : field_count - f ≡ suc (field_count - (f + 1)) = omega arith in
       let t : top + 1 - 1 ≡ top = omega arith in
-      laid-rows limit f (fieldCount - f) _ ws' kept.next
-      (rw k (stamped-done f _ _ _ _ _ ws ws' s (omega arith) p.ordered)
-      ∙ rw t at (sym (reached-rows parting-≟ layoutAt (top + 1) _ _ _ p.reached))
-      ∙ ap (λ (v : ℕ). rows_of (runs parting-≟ layoutAt (v + 1))) e
+      laid-rows limit f (field_count - f) _ ws' kept.next
+      (rw k (stamped_done f _ _ _ _ _ ws ws' s (omega arith) p.ordered)
+      ∙ rw t at (sym (reached_rows parting-≟ layout_at (top + 1) _ _ _ p.reached))
+      ∙ ap (λ (v : ℕ). rows_of (runs parting-≟ layout_at (v + 1))) e
       ∙ sym (form-next h))
       g
 
   -- One turn: the values v to w are alike. The rows so far are as before.
-  module _ (h : f < fieldCount) (v w : ℕ) (g : v ≤ w)
+  module _ (h : f < field_count) (v w : ℕ) (g : v ≤ w)
       (a : SearchAlike task.direction first before v w) (b : SearchAlike task.direction second before v w)
       (ws ws' : List ℕ) (old : Kept) (p : Progress ws old v)
-      (same : (j : ℕ) → j < old.next * rowWords → get_or ws' j 0 ≡ get_or ws j 0) where
-    alike : (u : ℕ) → v ≤ u → u ≤ w → layoutAt u ≡ layoutAt v
-    alike = form-alike task.direction first second before _ v w a b
+      (same : (j : ℕ) → j < old.next * row_words → get_or ws' j 0 ≡ get_or ws j 0) where
+    alike : (u : ℕ) → v ≤ u → u ≤ w → layout_at u ≡ layout_at v
+    alike = form_alike task.direction first second before _ v w a b
 
-    kept-rows : partRows f (suc (fieldCount - (f + 1))) ws' 0 old.last ≡ partRows f (suc (fieldCount - (f + 1))) ws 0 old.last
-    kept-rows = rows-moved ws ws' f _ (omega arith) 0 0 old.last (λ k q. same _ (omega (arith, p.ordered)))
+    kept_rows : part_rows f (suc (field_count - (f + 1))) ws' 0 old.last ≡ part_rows f (suc (field_count - (f + 1))) ws 0 old.last
+    kept_rows = rows_moved ws ws' f _ (omega arith) 0 0 old.last (λ k q. same _ (omega (arith, p.ordered)))
 
-    kept_block : partRows (f + 1) (fieldCount - (f + 1)) ws' old.last (old.next - old.last) ≡ partRows (f + 1) (fieldCount - (f + 1)) ws old.last (old.next - old.last)
-    kept_block = rows-moved ws ws' (f + 1) _ (omega arith) old.last old.last (old.next - old.last) (λ k q. same _ (omega (arith, p.ordered)))
+    kept_block : part_rows (f + 1) (field_count - (f + 1)) ws' old.last (old.next - old.last) ≡ part_rows (f + 1) (field_count - (f + 1)) ws old.last (old.next - old.last)
+    kept_block = rows_moved ws ws' (f + 1) _ (omega arith) old.last old.last (old.next - old.last) (λ k q. same _ (omega (arith, p.ordered)))
 
     -- The layout behind them is known to be that of the value before.
-    pub again-turn : Joins v layoutAt → Progress ws' old (w + 1)
+    pub again-turn : Joins v layout_at → Progress ws' old (w + 1)
     unfolding Joins
     again-turn j =
         rw (add-one w) record {
           ordered = p.ordered;
-          reached = rw (kept-rows, kept_block) (reached-again parting-≟ layoutAt v w g alike _ _ _ p.reached j.0 j.1);
+          reached = rw (kept_rows, kept_block) (reached_again parting-≟ layout_at v w g alike _ _ _ p.reached j.0 j.1);
         }
 
     -- Or it is written behind the rows so far, and placed.
-    module _ (ws'' : List ℕ) (new : Kept) (count : ℕ) (block : partRows (f + 1) (fieldCount - (f + 1)) ws' old.next count ≡ layoutAt v) where
-      merged-turn : Merged f (fieldCount - (f + 1)) old count ws' ws'' new → Progress ws'' new (suc w)
+    module _ (ws'' : List ℕ) (new : Kept) (count : ℕ) (block : part_rows (f + 1) (field_count - (f + 1)) ws' old.next count ≡ layout_at v) where
+      merged-turn : Merged f (field_count - (f + 1)) old count ws' ws'' new → Progress ws'' new (suc w)
       merged-turn m =
           rw (m.words, m.kept) record {
             ordered = p.ordered;
-            reached = rw (kept-rows, kept_block) (reached-merged parting-≟ layoutAt v w g alike _ _ _ p.reached (sym kept_block ∙ m.same ∙ block));
+            reached = rw (kept_rows, kept_block) (reached_merged parting-≟ layout_at v w g alike _ _ _ p.reached (sym kept_block ∙ m.same ∙ block));
           }
 
-      begun-turn : Begun f (fieldCount - (f + 1)) old count v ws' ws'' new → Progress ws'' new (suc w)
+      begun-turn : Begun f (field_count - (f + 1)) old count v ws' ws'' new → Progress ws'' new (suc w)
       begun-turn m =
           let c : new.next - new.last ≡ count = omega (arith, m.last, m.next) in
           record {
             ordered = omega (arith, m.last, m.next);
             reached =
-                rw (c, m.last, m.low, m.done, m.block, block, kept-rows, kept_block)
-                (reached-begun parting-≟ layoutAt v w g alike _ _ _ p.reached (λ q. m.apart (kept_block ∙ q ∙ sym block)));
+                rw (c, m.last, m.low, m.done, m.block, block, kept_rows, kept_block)
+                (reached_begun parting-≟ layout_at v w g alike _ _ _ p.reached (λ q. m.apart (kept_block ∙ q ∙ sym block)));
           }
 
-      pub turn : Placed f (fieldCount - (f + 1)) old count v ws' ws'' new → Progress ws'' new (w + 1)
+      pub turn : Placed f (field_count - (f + 1)) old count v ws' ws'' new → Progress ws'' new (w + 1)
       turn m = rw (add-one w) (⊎_elim merged-turn begun-turn m)
 
 -- What an answer tells.
 module _ (limit f n : ℕ) (form : List (Row Parting)) (ws : List ℕ) where
-  pub laid-count : (c : ℕ) (r : Laid) → r ≡ Rows c → LaidOut limit f n form ws r → (c ≤ limit) × (partRows f n ws 0 c ≡ form)
+  pub laid-count : (c : ℕ) (r : Laid) → r ≡ Rows c → LaidOut limit f n form ws r → (c ≤ limit) × (part_rows f n ws 0 c ≡ form)
   laid-count c r e l = by (dec_le (length form) limit)
     where
-      by : Dec (length form ≤ limit) → (c ≤ limit) × (partRows f n ws 0 c ≡ form)
+      by : Dec (length form ≤ limit) → (c ≤ limit) × (part_rows f n ws 0 c ≡ form)
       by (yes h) =
           let a : r ≡ Rows (length form) = rw (le-leb (length form) limit h) at l.answer in
           let k : c ≡ length form = cc in
@@ -148,76 +148,76 @@ module _ (a : ℕ) (xs part rest : List ℕ) (h : a ≤ length xs) where
   lent-before : (j : ℕ) → j < a → get_or (take a xs ++ (part ++ rest)) j 0 ≡ get_or xs j 0
   lent-before j g = get_or-append (take a xs) (part ++ rest) 0 j (rw (length-take-le a xs h) g) ∙ get_or-take a xs j 0 g
 
-  lent-part : (j : ℕ) → j < length part → get_or (take a xs ++ (part ++ rest)) (a + j) 0 ≡ get_or part j 0
-  lent-part j g =
+  lent_part : (j : ℕ) → j < length part → get_or (take a xs ++ (part ++ rest)) (a + j) 0 ≡ get_or part j 0
+  lent_part j g =
       let l : length (take a xs) + j ≡ a + j = rw (length-take-le a xs h) in
       sym (ap (λ (i : ℕ). get_or (take a xs ++ (part ++ rest)) i 0) l) ∙ get_or-append-add (take a xs) (part ++ rest) j 0 ∙ get_or-append part rest 0 j g
 
 -- One turn, the layout behind the values having been written into the part of the room behind the rows so far.
-pub turn-lent : (first second : List ℕ) (task : Task) (before : List ℕ) (f : ℕ) → f < fieldCount → (v w : ℕ) → v ≤ w
+pub turn_lent : (first second : List ℕ) (task : Task) (before : List ℕ) (f : ℕ) → f < field_count → (v w : ℕ) → v ≤ w
     → SearchAlike task.direction first before v w × SearchAlike task.direction second before v w
-    → (ws part rest ws'' : List ℕ) (old new : Kept) (limit count : ℕ) → Progress first second task before f ws old v → old.next * rowWords ≤ length ws
-    → limit * rowWords ≤ length part → (r : Laid) → r ≡ Rows count → LaidOut limit (f + 1) (fieldCount - (f + 1)) (layoutAt first second task before f v) part r
-    → Placed f (fieldCount - (f + 1)) old count v (take (old.next * rowWords) ws ++ (part ++ rest)) ws'' new → Progress first second task before f ws'' new (w + 1)
-turn-lent first second task before f h v w g ab ws part rest ws'' old new limit count p room enough r q l =
-    let c = laid-count limit (f + 1) (fieldCount - (f + 1)) _ part count r q l in
-    turn first second task before f h v w g ab.0 ab.1 ws _ old p (lent-before (old.next * rowWords) ws part rest room) ws'' new count
-    (rows-moved part (take (old.next * rowWords) ws ++ (part ++ rest)) (f + 1) (fieldCount - (f + 1)) (omega arith) 0 old.next count
-    (λ k q. lent-part (old.next * rowWords) ws part rest room k (omega (arith, c.0)) ∙ ap (λ (j : ℕ). get_or part j 0) (omega arith))
+    → (ws part rest ws'' : List ℕ) (old new : Kept) (limit count : ℕ) → Progress first second task before f ws old v → old.next * row_words ≤ length ws
+    → limit * row_words ≤ length part → (r : Laid) → r ≡ Rows count → LaidOut limit (f + 1) (field_count - (f + 1)) (layout_at first second task before f v) part r
+    → Placed f (field_count - (f + 1)) old count v (take (old.next * row_words) ws ++ (part ++ rest)) ws'' new → Progress first second task before f ws'' new (w + 1)
+turn_lent first second task before f h v w g ab ws part rest ws'' old new limit count p room enough r q l =
+    let c = laid-count limit (f + 1) (field_count - (f + 1)) _ part count r q l in
+    turn first second task before f h v w g ab.0 ab.1 ws _ old p (lent-before (old.next * row_words) ws part rest room) ws'' new count
+    (rows_moved part (take (old.next * row_words) ws ++ (part ++ rest)) (f + 1) (field_count - (f + 1)) (omega arith) 0 old.next count
+    (λ k q. lent_part (old.next * row_words) ws part rest room k (omega (arith, c.0)) ∙ ap (λ (j : ℕ). get_or part j 0) (omega arith))
     ∙ c.1)
 
 -- The same, where the layout may be known to be that of the value before.
-pub turn-stretch : (first second : List ℕ) (task : Task) (before : List ℕ) (f : ℕ) → f < fieldCount → (v w : ℕ) → v ≤ w
+pub turn_stretch : (first second : List ℕ) (task : Task) (before : List ℕ) (f : ℕ) → f < field_count → (v w : ℕ) → v ≤ w
     → SearchAlike task.direction first before v w × SearchAlike task.direction second before v w
-    → (ws part rest ws'' : List ℕ) (old new : Kept) (limit : ℕ) → Progress first second task before f ws old v → old.next * rowWords ≤ length ws
-    → limit * rowWords ≤ length part → (r : Stretch) → is_over r ≡ false
-    → StretchOut limit (f + 1) (fieldCount - (f + 1)) v (layoutAt first second task before f) part r
-    → PlacedStretch f (fieldCount - (f + 1)) old r v (take (old.next * rowWords) ws ++ (part ++ rest)) ws'' new → Progress first second task before f ws'' new (w + 1)
+    → (ws part rest ws'' : List ℕ) (old new : Kept) (limit : ℕ) → Progress first second task before f ws old v → old.next * row_words ≤ length ws
+    → limit * row_words ≤ length part → (r : Stretch) → is_over r ≡ false
+    → StretchOut limit (f + 1) (field_count - (f + 1)) v (layout_at first second task before f) part r
+    → PlacedStretch f (field_count - (f + 1)) old r v (take (old.next * row_words) ws ++ (part ++ rest)) ws'' new → Progress first second task before f ws'' new (w + 1)
 unfolding is_over
-turn-stretch first second task before f h v w g ab ws part rest ws'' old new limit p room enough (StretchRows c) o s m =
-    turn-lent first second task before f h v w g ab ws part rest ws'' old new limit c p room enough (Rows c) refl (s.rows c refl) (m.placed c refl)
-turn-stretch first second task before f h v w g ab ws part rest ws'' old new limit p room enough Again o s m =
+turn_stretch first second task before f h v w g ab ws part rest ws'' old new limit p room enough (StretchRows c) o s m =
+    turn_lent first second task before f h v w g ab ws part rest ws'' old new limit c p room enough (Rows c) refl (s.rows c refl) (m.placed c refl)
+turn_stretch first second task before f h v w g ab ws part rest ws'' old new limit p room enough Again o s m =
     rw ((m.again refl).0, (m.again refl).1)
-    (again-turn first second task before f h v w g ab.0 ab.1 ws _ old p (lent-before (old.next * rowWords) ws part rest room) (s.again refl))
-turn-stretch first second task before f h v w g ab ws part rest ws'' old new limit p room enough StretchOver o s m = absurd (false≢true (sym o))
+    (again-turn first second task before f h v w g ab.0 ab.1 ws _ old p (lent-before (old.next * row_words) ws part rest room) (s.again refl))
+turn_stretch first second task before f h v w g ab ws part rest ws'' old new limit p room enough StretchOver o s m = absurd (false≢true (sym o))
 
 -- The layout behind a value is that of the point with the value.
-module _ (first second : List ℕ) (task : Task) (ps hs : List ℕ) (f : ℕ) (v : Value) (p : length ps ≡ fieldCount * valueWords) (h : f < fieldCount)
-    (e : hs ≡ written ps (valueWords * f) (number v)) where
-  pub value-form : formAt first second task (valuesFrom hs 0 (f + 1)) (f + 1) (fieldCount - (f + 1)) ≡ layoutAt first second task (valuesFrom ps 0 f) f (number v)
+module _ (first second : List ℕ) (task : Task) (ps hs : List ℕ) (f : ℕ) (v : Value) (p : length ps ≡ field_count * value_words) (h : f < field_count)
+    (e : hs ≡ written ps (value_words * f) (number v)) where
+  pub value-form : form_at first second task (values_from hs 0 (f + 1)) (f + 1) (field_count - (f + 1)) ≡ layout_at first second task (values_from ps 0 f) f (number v)
   value-form =
-      ap (λ (us : List ℕ). formAt first second task us (f + 1) (fieldCount - (f + 1)))
-      (ap (λ (xs : List ℕ). valuesFrom xs 0 (f + 1)) e ∙ values-with ps f (number v) (omega arith))
+      ap (λ (us : List ℕ). form_at first second task us (f + 1) (field_count - (f + 1)))
+      (ap (λ (xs : List ℕ). values_from xs 0 (f + 1)) e ∙ values_with ps f (number v) (omega arith))
 
   module _ (limit : ℕ) (ws : List ℕ) (r : Laid) where
-    pub laid-field : LaidOut limit (f + 1) (fieldCount - (f + 1)) (formAt first second task (valuesFrom hs 0 (f + 1)) (f + 1) (fieldCount - (f + 1))) ws r
-        → LaidOut limit (f + 1) (fieldCount - (f + 1)) (layoutAt first second task (valuesFrom ps 0 f) f (number v)) ws r
+    pub laid-field : LaidOut limit (f + 1) (field_count - (f + 1)) (form_at first second task (values_from hs 0 (f + 1)) (f + 1) (field_count - (f + 1))) ws r
+        → LaidOut limit (f + 1) (field_count - (f + 1)) (layout_at first second task (values_from ps 0 f) f (number v)) ws r
     laid-field l = rw value-form at l
 
-    pub laid-last : f + 1 ≡ fieldCount → LaidOut limit fieldCount 0 (formAt first second task (valuesFrom hs 0 fieldCount) fieldCount 0) ws r
-        → LaidOut limit (f + 1) (fieldCount - (f + 1)) (layoutAt first second task (valuesFrom ps 0 f) f (number v)) ws r
-    laid-last k l = laid-field (at f (omega arith))
+    pub laid_last : f + 1 ≡ field_count → LaidOut limit field_count 0 (form_at first second task (values_from hs 0 field_count) field_count 0) ws r
+        → LaidOut limit (f + 1) (field_count - (f + 1)) (layout_at first second task (values_from ps 0 f) f (number v)) ws r
+    laid_last k l = laid-field (at f (omega arith))
       where
-        at : (g : ℕ) → g ≡ 4 → LaidOut limit (g + 1) (fieldCount - (g + 1)) (formAt first second task (valuesFrom hs 0 (g + 1)) (g + 1) (fieldCount - (g + 1))) ws r
+        at : (g : ℕ) → g ≡ 4 → LaidOut limit (g + 1) (field_count - (g + 1)) (form_at first second task (values_from hs 0 (g + 1)) (g + 1) (field_count - (g + 1))) ws r
         at g q = rw q l
 
 -- The rows within the limit end at a word of the room, and the part behind it has room for the layout behind.
 pub record Room (limit f a : ℕ) (xs : List ℕ) : Type 0 where
-  pub start : a + limit * rowWords ≤ length xs
-  pub behind : wordsFor limit (fieldCount - (f + 1)) ≤ length (take (length xs - a) (drop a xs))
-  pub enough : limit * rowWords ≤ length (take (length xs - a) (drop a xs))
+  pub start : a + limit * row_words ≤ length xs
+  pub behind : words_for limit (field_count - (f + 1)) ≤ length (take (length xs - a) (drop a xs))
+  pub enough : limit * row_words ≤ length (take (length xs - a) (drop a xs))
 
-pub room_for : (limit f next n : ℕ) (xs : List ℕ) → f < fieldCount → next ≤ limit → wordsFor limit (fieldCount - f) ≤ n → length xs ≡ n → Room limit f (next * rowWords) xs
+pub room_for : (limit f next n : ℕ) (xs : List ℕ) → f < field_count → next ≤ limit → words_for limit (field_count - f) ≤ n → length xs ≡ n → Room limit f (next * row_words) xs
 room_for limit f next n xs h g enough e =
     let w = words-next limit f h in
-    let l : length (take (length xs - next * rowWords) (drop (next * rowWords) xs)) ≡ length xs - next * rowWords =
-    length-take-le (length xs - next * rowWords) (drop (next * rowWords) xs) (rw (length-drop (next * rowWords) xs) (omega arith)) in
+    let l : length (take (length xs - next * row_words) (drop (next * row_words) xs)) ≡ length xs - next * row_words =
+    length-take-le (length xs - next * row_words) (drop (next * row_words) xs) (rw (length-drop (next * row_words) xs) (omega arith)) in
     record { start = omega arith; behind = omega arith; enough = omega arith }
 
 -- An answer that is no count: there are more rows than the limit. The tag of an answer is its place among the answers.
-pub laid-else : (limit f n : ℕ) (form : List (Row Parting)) (ws : List ℕ) (tag : Laid → ℕ) → ((m : ℕ) → tag (Rows m) ≡ 0) → (r : Laid)
+pub laid_else : (limit f n : ℕ) (form : List (Row Parting)) (ws : List ℕ) (tag : Laid → ℕ) → ((m : ℕ) → tag (Rows m) ≡ 0) → (r : Laid)
     → LaidOut limit f n form ws r → (tag r ≡ 1) ⊎ (tag r ≡ 2) → limit < length form
-laid-else limit f n form ws tag z r l o = by (dec_le (length form) limit)
+laid_else limit f n form ws tag z r l o = by (dec_le (length form) limit)
   where
     by : Dec (length form ≤ limit) → limit < length form
     by (yes h) =

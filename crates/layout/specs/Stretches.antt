@@ -1,11 +1,11 @@
 -- What is laid out behind one value of a field, and whether that is known to be the same as behind the value before. Assumes nothing: these
 -- are definitions.
 use Rattle.std.specs.Prelude.{ℕ, ◌-◌, ◌<◌, ◌≡◌, Bool, true, false, List, length}
-use Rattle.selectors.specs.Words.{fieldCount}
+use Rattle.selectors.specs.Words.{field_count}
 use Rattle.normal_form.specs.Search.{Row, Combination}
 use Rattle.cover.specs.Boxes.{InBox}
 use Rattle.layout.specs.Parting.{Parting}
-use Rattle.layout.specs.Decode.{sizesFrom}
+use Rattle.layout.specs.Decode.{sizes_from}
 use Rattle.layout.specs.Steps.{LaidOut, Placed}
 use Rattle.layout.specs.declared.Kept.{Kept}
 use Rattle.layout.specs.declared.Laid.{Laid}
@@ -19,10 +19,10 @@ is_over (Rows n) = false
 is_over Again = false
 is_over Over = true
 
-unfoldable pub stretchOf : Laid → Stretch
-stretchOf (LaidRows n) = Rows n
-stretchOf LaidOver = Over
-stretchOf NoRoom = Over
+unfoldable pub stretch_of : Laid → Stretch
+stretch_of (LaidRows n) = Rows n
+stretch_of LaidOver = Over
+stretch_of NoRoom = Over
 
 -- The layout behind the value v is that behind the value before it.
 unfoldable pub Joins : ℕ → (ℕ → List (Row Parting)) → Type 0
@@ -41,4 +41,4 @@ pub record PlacedStretch (f n : ℕ) (old : Kept) (laid : Stretch) (v : ℕ) (ws
 
 -- A box holds every combination of the fields from any field on.
 unfoldable pub Whole : Point → List ℕ → Type 0
-Whole highest bs = (f : ℕ) (us : List ℕ) → Combination (sizesFrom highest.words f (fieldCount - f)) us → InBox f bs us
+Whole highest bs = (f : ℕ) (us : List ℕ) → Combination (sizes_from highest.words f (field_count - f)) us → InBox f bs us

@@ -1,9 +1,9 @@
 // How far the values of a field are treated alike: the last value of the interval that begins at one.
 ghost use Rattle.std.specs.Prelude.{◌≡◌, true, ◌/◌, ◌+◌, ◌*◌, ◌≤◌, ◌<◌, min, length};
-ghost use Rattle.selectors.specs.Ranges.{endsRange};
+ghost use Rattle.selectors.specs.Ranges.{ends_range};
 ghost use Rattle.selectors.specs.Value.{number};
-ghost use Rattle.selectors.specs.Words.{fieldCount, valuesFrom};
-ghost use Rattle.policy.specs.Words.{rowWords};
+ghost use Rattle.selectors.specs.Words.{field_count, values_from};
+ghost use Rattle.policy.specs.Words.{row_words};
 ghost use Rattle.agree.specs.Sides.{range_of, There};
 ghost use Rattle.layout.specs.Decode.{active as isActive};
 ghost use Rattle.layout.specs.Lists.{AlikeListed, CutsAt};
@@ -28,7 +28,7 @@ fn smaller(a: Value, b: Value) -> Value
 // The last value, up to `best`, to which the range treats all values like `from`.
 fn alike_to(range: Ends, from: Value, best: Value) -> Value
     requires { number from ≤ number best }
-    ensures { IntervalEnd (number from) (number best) (number result) (AlikeTo (endsRange range) (number from) (number result)) }
+    ensures { IntervalEnd (number from) (number best) (number result) (AlikeTo (ends_range range) (number from) (number result)) }
 {
     if from.less(range.low) {
         let before = range.low.previous();
@@ -42,7 +42,7 @@ fn alike_to(range: Ends, from: Value, best: Value) -> Value
 
 // The same for the range of a field in a row.
 fn range_end(rows: &[u64], row: usize, field: usize, from: Value, best: Value) -> Value
-    requires field_lt_field_count { (field < fieldCount) × (row * rowWords + rowWords ≤ length rows.now) }
+    requires field_lt_field_count { (field < field_count) × (row * row_words + row_words ≤ length rows.now) }
     requires from_bound { number from ≤ number best }
     ensures { IntervalEnd (number from) (number best) (number result) (AlikeTo (range_of rows.now row field) (number from) (number result)) }
 {
@@ -59,9 +59,9 @@ fn row_end(
     from: Value,
     best: Value,
 ) -> Value
-    requires field_lt_field_count { (field < fieldCount) × (row * rowWords + rowWords ≤ length rows.now) }
+    requires field_lt_field_count { (field < field_count) × (row * row_words + row_words ≤ length rows.now) }
     requires from_bound { number from ≤ number best }
-    ensures { IntervalEnd (number from) (number best) (number result) (isActive direction rows.now row field (valuesFrom point.now 0 field) ≡ true → AlikeTo (range_of rows.now row field) (number from) (number result)) }
+    ensures { IntervalEnd (number from) (number best) (number result) (isActive direction rows.now row field (values_from point.now 0 field) ≡ true → AlikeTo (range_of rows.now row field) (number from) (number result)) }
 {
     let end = range_end(rows, row, field, from, best);
     if !end.less(best) {
@@ -82,7 +82,7 @@ fn end_listed(
     from: Value,
     best: Value,
 ) -> Value
-    requires { (field < fieldCount) × (There rows.now list.now count × (number from ≤ number best)) }
+    requires { (field < field_count) × (There rows.now list.now count × (number from ≤ number best)) }
     ensures { IntervalEnd (number from) (number best) (number result) (AlikeListed rows.now list.now count field (number from) (number result)) }
 {
     let mut end = best;
@@ -103,8 +103,8 @@ fn end_of_all(
     from: Value,
     best: Value,
 ) -> Value
-    requires { (field < fieldCount) × (number from ≤ number best) }
-    ensures { IntervalEnd (number from) (number best) (number result) (AlikeAmong direction rows.now (length rows.now / rowWords) field (valuesFrom point.words 0 field) (number from) (number result)) }
+    requires { (field < field_count) × (number from ≤ number best) }
+    ensures { IntervalEnd (number from) (number best) (number result) (AlikeAmong direction rows.now (length rows.now / row_words) field (values_from point.words 0 field) (number from) (number result)) }
 {
     let words = point.words;
     let count = rows.len() / ROW_WORDS;
@@ -129,9 +129,9 @@ fn end_among(
     from: Value,
     best: Value,
 ) -> Value
-    requires field_lt_field_count { (field < fieldCount) × (number from ≤ number best) }
-    requires cuts_at { CutsAt direction rows.now field (valuesFrom point.words 0 field) cuts.now count }
-    ensures { IntervalEnd (number from) (number best) (number result) (SearchAlike direction rows.now (valuesFrom point.words 0 field) (number from) (number result)) }
+    requires field_lt_field_count { (field < field_count) × (number from ≤ number best) }
+    requires cuts_at { CutsAt direction rows.now field (values_from point.words 0 field) cuts.now count }
+    ensures { IntervalEnd (number from) (number best) (number result) (SearchAlike direction rows.now (values_from point.words 0 field) (number from) (number result)) }
 {
     if rows.len() / ROW_WORDS <= LIMIT {
         return end_listed(rows, cuts, count, field, from, best);
@@ -151,10 +151,10 @@ pub(crate) fn interval_end(
     from: Value,
     top: Value,
 ) -> Value
-    requires field_lt_field_count { (branch.field < fieldCount) × (number from ≤ number top) }
-    requires cuts_at { CutsAt task.direction first.now branch.field (valuesFrom branch.point.words 0 branch.field) cuts.now branch.firsts }
-    requires cuts_at_2 { CutsAt task.direction second.now branch.field (valuesFrom branch.point.words 0 branch.field) other_cuts.now branch.seconds }
-    ensures { IntervalEnd (number from) (number top) (number result) (SearchAlike task.direction first.now (valuesFrom branch.point.words 0 branch.field) (number from) (number result) × SearchAlike task.direction second.now (valuesFrom branch.point.words 0 branch.field) (number from) (number result)) }
+    requires field_lt_field_count { (branch.field < field_count) × (number from ≤ number top) }
+    requires cuts_at { CutsAt task.direction first.now branch.field (values_from branch.point.words 0 branch.field) cuts.now branch.firsts }
+    requires cuts_at_2 { CutsAt task.direction second.now branch.field (values_from branch.point.words 0 branch.field) other_cuts.now branch.seconds }
+    ensures { IntervalEnd (number from) (number top) (number result) (SearchAlike task.direction first.now (values_from branch.point.words 0 branch.field) (number from) (number result) × SearchAlike task.direction second.now (values_from branch.point.words 0 branch.field) (number from) (number result)) }
 {
     let direction = task.direction;
     let point = branch.point;

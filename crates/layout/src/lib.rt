@@ -6,12 +6,12 @@ mod stretches;
 
 ghost use Rattle.std.specs.Prelude.{◌+◌, ◌-◌, ◌≤◌, ◌<◌, length};
 ghost use Rattle.selectors.specs.Value.{number};
-ghost use Rattle.selectors.specs.Words.{fieldCount};
-ghost use Rattle.policy.specs.Words.{policyRows};
-ghost use Rattle.layout.specs.Laid.{sizesOf, Outcome};
+ghost use Rattle.selectors.specs.Words.{field_count};
+ghost use Rattle.policy.specs.Words.{policy_rows};
+ghost use Rattle.layout.specs.Laid.{sizes_of, Outcome};
 ghost use Rattle.layout.specs.Lists.{BranchAt};
-ghost use Rattle.layout.specs.Parting.{differenceForm};
-ghost use Rattle.layout.specs.Steps.{LaidOut, fieldForm, valueForm, wordsFor};
+ghost use Rattle.layout.specs.Parting.{difference_form};
+ghost use Rattle.layout.specs.Steps.{LaidOut, field_form, value_form, words_for};
 ghost use Rattle.layout.specs.Stretches.{StretchOut};
 
 use crate::intervals::interval_end;
@@ -99,9 +99,9 @@ fn layout_stretch(
     from: Value,
     room: &mut [u64],
 ) -> Stretch
-    requires field_lt_field_count { (branch.field < fieldCount) × BranchAt task.direction first.now second.now branch.field branch of_first.now of_second.now }
-    requires field_in_bounds { wordsFor task.limit (fieldCount - (branch.field + 1)) ≤ length room.old }
-    ensures { StretchOut task.limit (branch.field + 1) (fieldCount - (branch.field + 1)) (number from) (valueForm first.now second.now task branch.point branch.field) room.new result }
+    requires field_lt_field_count { (branch.field < field_count) × BranchAt task.direction first.now second.now branch.field branch of_first.now of_second.now }
+    requires field_in_bounds { words_for task.limit (field_count - (branch.field + 1)) ≤ length room.old }
+    ensures { StretchOut task.limit (branch.field + 1) (field_count - (branch.field + 1)) (number from) (value_form first.now second.now task branch.point branch.field) room.new result }
 {
     if joined(first, second, task, branch, of_first, of_second, from) {
         return Stretch::Again;
@@ -146,9 +146,9 @@ fn layout_field(
     of_second: &[u16; LIMIT],
     room: &mut [u64],
 ) -> Laid
-    requires field_lt_field_count { (branch.field < fieldCount) × BranchAt task.direction first.now second.now branch.field branch of_first.now of_second.now }
-    requires field_in_bounds { wordsFor task.limit (fieldCount - branch.field) ≤ length room.old }
-    ensures { LaidOut task.limit branch.field (fieldCount - branch.field) (fieldForm first.now second.now task branch.point branch.field) room.new result }
+    requires field_lt_field_count { (branch.field < field_count) × BranchAt task.direction first.now second.now branch.field branch of_first.now of_second.now }
+    requires field_in_bounds { words_for task.limit (field_count - branch.field) ≤ length room.old }
+    ensures { LaidOut task.limit branch.field (field_count - branch.field) (field_form first.now second.now task branch.point branch.field) room.new result }
 {
     let field = branch.field;
     let highest = task.highest.words;
@@ -198,7 +198,7 @@ pub fn layout(
     limit: usize,
     room: &mut [u64],
 ) -> Laid
-    ensures { Outcome limit (differenceForm (sizesOf highest) direction (policyRows first.now) (policyRows second.now)) room.old room.new result }
+    ensures { Outcome limit (difference_form (sizes_of highest) direction (policy_rows first.now) (policy_rows second.now)) room.old room.new result }
 {
     if room.len() / ROOM_WORDS < limit {
         return Laid::NoRoom;

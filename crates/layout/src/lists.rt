@@ -2,9 +2,9 @@
 ghost use Rattle.std.specs.Prelude.{◌≡◌, [], ◌+◌, ◌*◌, ◌≤◌, ◌<◌, min, length};
 ghost use Rattle.std.proofs.lemmas.List.Edits.{sets};
 ghost use Rattle.selectors.specs.Value.{number};
-ghost use Rattle.selectors.specs.Words.{fieldCount, valueWords, ends_at, valuesFrom, wordsOfValue};
-ghost use Rattle.policy.specs.Policy.{orderedSearch};
-ghost use Rattle.policy.specs.Words.{policyRows, actionWord, rowWords, rowLimit};
+ghost use Rattle.selectors.specs.Words.{field_count, value_words, ends_at, values_from, words_of_value};
+ghost use Rattle.policy.specs.Policy.{ordered_search};
+ghost use Rattle.policy.specs.Words.{policy_rows, action_word, row_words, row_limit};
 ghost use Rattle.agree.specs.Sides.{There};
 ghost use Rattle.layout.specs.Decode.{word_of, active as isActive};
 ghost use Rattle.layout.specs.Lists.{Lists, Narrowed};
@@ -19,8 +19,8 @@ use selectors::{AddressRange, Direction, Ends, Value};
 
 // The point with another value of a field.
 pub(crate) fn with_value(point: Point, field: usize, value: Value) -> Point
-    requires { field < fieldCount }
-    ensures { result.words ≡ sets point.words (valueWords * field) (wordsOfValue (number value)) }
+    requires { field < field_count }
+    ensures { result.words ≡ sets point.words (value_words * field) (words_of_value (number value)) }
 {
     let mut words = point.words;
     put_value(&mut words, VALUE_WORDS * field, value);
@@ -35,8 +35,8 @@ pub(crate) fn active(
     point: &[u64; SELECTOR_WORDS],
     field: usize,
 ) -> bool
-    requires { (field ≤ fieldCount) × (row * rowWords + rowWords ≤ length rows.now) }
-    ensures { result ≡ isActive direction rows.now row field (valuesFrom point.now 0 field) }
+    requires { (field ≤ field_count) × (row * row_words + row_words ≤ length rows.now) }
+    ensures { result ≡ isActive direction rows.now row field (values_from point.now 0 field) }
 {
     if !direction_of(rows[row * ROW_WORDS]).applies_to(direction) {
         return false;
@@ -46,7 +46,7 @@ pub(crate) fn active(
 
 // The range of a field in a row. Most of a layout's time goes here: lent as four words, the range is read without a test of its place.
 pub(crate) fn row_range(rows: &[u64], row: usize, field: usize) -> Ends
-    requires { (field < fieldCount) × (row * rowWords + rowWords ≤ length rows.now) }
+    requires { (field < field_count) × (row * row_words + row_words ≤ length rows.now) }
     ensures { result ≡ ends_at rows.now (word_of row field) }
 {
     let at = row * ROW_WORDS + HEAD_WORDS + RANGE_WORDS * field;
@@ -56,7 +56,7 @@ pub(crate) fn row_range(rows: &[u64], row: usize, field: usize) -> Ends
 
 // How many of so many rows are listed: the limit's at the most. Rows of a policy beyond them are asked one by one.
 fn listable(total: usize) -> usize
-    ensures { result ≡ min total rowLimit }
+    ensures { result ≡ min total row_limit }
 {
     if total < LIMIT {
         return total;
@@ -66,7 +66,7 @@ fn listable(total: usize) -> usize
 
 // Lists the rows for the direction, and counts them.
 pub(crate) fn rows_for(rows: &[u64], direction: Direction, list: &mut [u16; LIMIT]) -> usize
-    requires { length list.old ≡ rowLimit }
+    requires { length list.old ≡ row_limit }
     ensures { Lists direction rows.now 0 [] list.new result }
 {
     let nowhere = [0u64; SELECTOR_WORDS];
@@ -92,8 +92,8 @@ pub(crate) fn narrow(
     value: Value,
     list: &mut [u16; LIMIT],
 ) -> usize
-    requires field_lt_field_count { (field < fieldCount) × There rows.now old.now total }
-    requires list_len { length list.old ≡ rowLimit }
+    requires field_lt_field_count { (field < field_count) × There rows.now old.now total }
+    requires list_len { length list.old ≡ row_limit }
     ensures { Narrowed rows.now field (number value) old.now total list.new result }
 {
     let mut count: usize = 0;
@@ -120,8 +120,8 @@ pub(crate) fn action_at(
     list: &[u16; LIMIT],
     count: usize,
 ) -> u64
-    requires { Lists direction rows.now fieldCount (valuesFrom point.words 0 fieldCount) list.now count }
-    ensures { result ≡ actionWord (orderedSearch direction (policyRows rows.now) (valuesFrom point.words 0 fieldCount)) }
+    requires { Lists direction rows.now field_count (values_from point.words 0 field_count) list.now count }
+    ensures { result ≡ action_word (ordered_search direction (policy_rows rows.now) (values_from point.words 0 field_count)) }
 {
     if 0 < count {
         return rows[wide(list[0]) * ROW_WORDS + 1];

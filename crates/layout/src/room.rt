@@ -1,10 +1,10 @@
 // The rows of a layout in the room: whether blocks of them are the same, and the range that a field puts in front of them.
 ghost use Rattle.std.specs.Prelude.{◌≡◌, true, ◌↔◌, ℕ, ◌+◌, ◌-◌, ◌*◌, ◌≤◌, ◌<◌, length};
-ghost use Rattle.selectors.specs.Range.{sameRange};
+ghost use Rattle.selectors.specs.Range.{same_range};
 ghost use Rattle.selectors.specs.Value.{number};
-ghost use Rattle.selectors.specs.Words.{fieldCount, rangeAt};
-ghost use Rattle.policy.specs.Words.{rowWords};
-ghost use Rattle.layout.specs.Decode.{rowRanges, partRow, partRows};
+ghost use Rattle.selectors.specs.Words.{field_count, range_at};
+ghost use Rattle.policy.specs.Words.{row_words};
+ghost use Rattle.layout.specs.Decode.{row_ranges, part_row, part_rows};
 ghost use Rattle.layout.specs.Steps.{Stamped, Placed};
 ghost use Rattle.layout.specs.Stretches.{PlacedStretch};
 ghost use Rattle.layout.specs.declared.Stretch.TheVariants.{Rows as StretchRows};
@@ -15,7 +15,7 @@ use selectors::words::{FIELDS, RANGE_WORDS, ends_at, put_ends};
 use selectors::{Ends, Value};
 
 fn same_range(words: &[u64], a: usize, b: usize) -> bool
-    ensures { result ≡ sameRange (rangeAt words.now a) (rangeAt words.now b) }
+    ensures { result ≡ same_range (range_at words.now a) (range_at words.now b) }
 {
     let own = ends_at(words, a);
     let other = ends_at(words, b);
@@ -27,8 +27,8 @@ fn same_range(words: &[u64], a: usize, b: usize) -> bool
 
 // Whether two rows have the same ranges from the field on.
 fn same_ranges(room: &[u64], a: usize, b: usize, field: usize) -> bool
-    requires { (field ≤ fieldCount) × ((a * rowWords + rowWords ≤ length room.now) × (b * rowWords + rowWords ≤ length room.now)) }
-    ensures { (result ≡ true) ↔ (rowRanges room.now a field (fieldCount - field) ≡ rowRanges room.now b field (fieldCount - field)) }
+    requires { (field ≤ field_count) × ((a * row_words + row_words ≤ length room.now) × (b * row_words + row_words ≤ length room.now)) }
+    ensures { (result ≡ true) ↔ (row_ranges room.now a field (field_count - field) ≡ row_ranges room.now b field (field_count - field)) }
 {
     let left = a * ROW_WORDS + HEAD_WORDS;
     let right = b * ROW_WORDS + HEAD_WORDS;
@@ -44,8 +44,8 @@ fn same_ranges(room: &[u64], a: usize, b: usize, field: usize) -> bool
 
 // Whether two rows are the same from the field on.
 fn same_row(room: &[u64], a: usize, b: usize, field: usize) -> bool
-    requires { (field ≤ fieldCount) × ((a * rowWords + rowWords ≤ length room.now) × (b * rowWords + rowWords ≤ length room.now)) }
-    ensures { (result ≡ true) ↔ (partRow field (fieldCount - field) room.now a ≡ partRow field (fieldCount - field) room.now b) }
+    requires { (field ≤ field_count) × ((a * row_words + row_words ≤ length room.now) × (b * row_words + row_words ≤ length room.now)) }
+    ensures { (result ≡ true) ↔ (part_row field (field_count - field) room.now a ≡ part_row field (field_count - field) room.now b) }
 {
     if room[a * ROW_WORDS] != room[b * ROW_WORDS] {
         return false;
@@ -58,8 +58,8 @@ fn same_row(room: &[u64], a: usize, b: usize, field: usize) -> bool
 
 // Whether `count` rows from a on and from b on are the same from the field on.
 fn same_rows(room: &[u64], a: usize, b: usize, count: usize, field: usize) -> bool
-    requires { (field ≤ fieldCount) × (((a + count) * rowWords ≤ length room.now) × ((b + count) * rowWords ≤ length room.now)) }
-    ensures { (result ≡ true) ↔ (partRows field (fieldCount - field) room.now a count ≡ partRows field (fieldCount - field) room.now b count) }
+    requires { (field ≤ field_count) × (((a + count) * row_words ≤ length room.now) × ((b + count) * row_words ≤ length room.now)) }
+    ensures { (result ≡ true) ↔ (part_rows field (field_count - field) room.now a count ≡ part_rows field (field_count - field) room.now b count) }
 {
     let mut i: usize = 0;
     while i < count {
@@ -73,8 +73,8 @@ fn same_rows(room: &[u64], a: usize, b: usize, count: usize, field: usize) -> bo
 
 // Writes a row's range of the field.
 fn stamp_row(room: &mut [u64], row: usize, field: usize, low: Value, high: Value)
-    requires { (field < fieldCount) × (row * rowWords + rowWords ≤ length room.old) }
-    ensures { Stamped field (fieldCount - (field + 1)) row (row + 1) (number low) (number high) room.old room.new }
+    requires { (field < field_count) × (row * row_words + row_words ≤ length room.old) }
+    ensures { Stamped field (field_count - (field + 1)) row (row + 1) (number low) (number high) room.old room.new }
 {
     let at = row * ROW_WORDS + HEAD_WORDS + RANGE_WORDS * field;
     put_ends(room, at, Ends { low, high });
@@ -82,8 +82,8 @@ fn stamp_row(room: &mut [u64], row: usize, field: usize, low: Value, high: Value
 
 // Writes the range of the field of the rows a to b, without b.
 pub(crate) fn stamp(room: &mut [u64], a: usize, b: usize, field: usize, low: Value, high: Value)
-    requires { (field < fieldCount) × ((a ≤ b) × (b * rowWords ≤ length room.old)) }
-    ensures { Stamped field (fieldCount - (field + 1)) a b (number low) (number high) room.old room.new }
+    requires { (field < field_count) × ((a ≤ b) × (b * row_words ≤ length room.old)) }
+    ensures { Stamped field (field_count - (field + 1)) a b (number low) (number high) room.old room.new }
 {
     let mut row = a;
     while row < b {
@@ -94,8 +94,8 @@ pub(crate) fn stamp(room: &mut [u64], a: usize, b: usize, field: usize, low: Val
 
 // Whether the last interval's rows are the same as the `count` rows behind them, from the field on.
 fn same_block(room: &[u64], last: usize, next: usize, count: usize, field: usize) -> bool
-    requires { (field ≤ fieldCount) × ((last ≤ next) × ((next + count) * rowWords ≤ length room.now)) }
-    ensures { (result ≡ true) ↔ (partRows field (fieldCount - field) room.now last (next - last) ≡ partRows field (fieldCount - field) room.now next count) }
+    requires { (field ≤ field_count) × ((last ≤ next) × ((next + count) * row_words ≤ length room.now)) }
+    ensures { (result ≡ true) ↔ (part_rows field (field_count - field) room.now last (next - last) ≡ part_rows field (field_count - field) room.now next count) }
 {
     if next - last != count {
         return false;
@@ -105,8 +105,8 @@ fn same_block(room: &[u64], last: usize, next: usize, count: usize, field: usize
 
 // The last interval goes on, or it ends and one begins with the `count` rows behind it, which are the layout at `from`.
 fn place(room: &mut [u64], kept: Kept, count: usize, field: usize, from: Value) -> Kept
-    requires { (field < fieldCount) × ((kept.last ≤ kept.next) × ((kept.next + count) * rowWords ≤ length room.old)) }
-    ensures { Placed field (fieldCount - (field + 1)) kept count (number from) room.old room.new result }
+    requires { (field < field_count) × ((kept.last ≤ kept.next) × ((kept.next + count) * row_words ≤ length room.old)) }
+    ensures { Placed field (field_count - (field + 1)) kept count (number from) room.old room.new result }
 {
     let last = kept.last;
     let next = kept.next;
@@ -129,9 +129,9 @@ pub(crate) fn place_stretch(
     field: usize,
     from: Value,
 ) -> Kept
-    requires field_lt_field_count { (field < fieldCount) × (kept.last ≤ kept.next) }
-    requires by_index { (count : ℕ) → laid ≡ StretchRows count → (kept.next + count) * rowWords ≤ length room.old }
-    ensures { PlacedStretch field (fieldCount - (field + 1)) kept laid (number from) room.old room.new result }
+    requires field_lt_field_count { (field < field_count) × (kept.last ≤ kept.next) }
+    requires by_index { (count : ℕ) → laid ≡ StretchRows count → (kept.next + count) * row_words ≤ length room.old }
+    ensures { PlacedStretch field (field_count - (field + 1)) kept laid (number from) room.old room.new result }
 {
     match laid {
         Stretch::Rows(count) => place(room, kept, count, field, from),

@@ -1,11 +1,11 @@
 // What stands behind one value of a field: the leaf, and what is known without laying it out.
 ghost use Rattle.std.specs.Prelude.{◌≡◌, true, [], ◌/◌, ◌*◌, ◌≤◌, ◌<◌, length};
 ghost use Rattle.selectors.specs.Value.{number};
-ghost use Rattle.selectors.specs.Words.{fieldCount};
-ghost use Rattle.policy.specs.Words.{rowWords, rowLimit};
+ghost use Rattle.selectors.specs.Words.{field_count};
+ghost use Rattle.policy.specs.Words.{row_words, row_limit};
 ghost use Rattle.layout.specs.Lists.{BranchAt};
-ghost use Rattle.layout.specs.Steps.{LaidOut, fieldForm, valueForm};
-ghost use Rattle.layout.specs.Stretches.{is_over, stretchOf, Joins, Whole};
+ghost use Rattle.layout.specs.Steps.{LaidOut, field_form, value_form};
+ghost use Rattle.layout.specs.Stretches.{is_over, stretch_of, Joins, Whole};
 
 use crate::lists::action_at;
 use crate::{Branch, Laid, Point, Stretch, Task, ZERO};
@@ -25,8 +25,8 @@ pub(crate) fn leaf(
     of_second: &[u16; LIMIT],
     room: &mut [u64],
 ) -> Laid
-    requires { (task.limit * rowWords ≤ length room.old) × BranchAt task.direction first.now second.now fieldCount branch of_first.now of_second.now }
-    ensures { LaidOut task.limit fieldCount 0 (fieldForm first.now second.now task branch.point fieldCount) room.new result }
+    requires { (task.limit * row_words ≤ length room.old) × BranchAt task.direction first.now second.now field_count branch of_first.now of_second.now }
+    ensures { LaidOut task.limit field_count 0 (field_form first.now second.now task branch.point field_count) room.new result }
 {
     let direction = task.direction;
     let point = branch.point;
@@ -55,7 +55,7 @@ pub(crate) fn is_over(laid: Stretch) -> bool
 
 // A layout as what is laid out behind a value.
 pub(crate) fn stretch_of(laid: Laid) -> Stretch
-    ensures { result ≡ stretchOf laid }
+    ensures { result ≡ stretch_of laid }
 {
     match laid {
         Laid::Rows(count) => Stretch::Rows(count),
@@ -79,7 +79,7 @@ fn box_of(highest: Point) -> Bounds
 
 // Whether both policies have no more rows than are listed.
 fn all_listed(first: &[u64], second: &[u64]) -> bool
-    ensures { result ≡ true → (length first.now / rowWords ≤ rowLimit) × (length second.now / rowWords ≤ rowLimit) }
+    ensures { result ≡ true → (length first.now / row_words ≤ row_limit) × (length second.now / row_words ≤ row_limit) }
 {
     if LIMIT < first.len() / ROW_WORDS {
         return false;
@@ -97,8 +97,8 @@ pub(crate) fn joined(
     of_second: &[u16; LIMIT],
     from: Value,
 ) -> bool
-    requires { (branch.field < fieldCount) × BranchAt task.direction first.now second.now branch.field branch of_first.now of_second.now }
-    ensures { result ≡ true → Joins (number from) (valueForm first.now second.now task branch.point branch.field) }
+    requires { (branch.field < field_count) × BranchAt task.direction first.now second.now branch.field branch of_first.now of_second.now }
+    ensures { result ≡ true → Joins (number from) (value_form first.now second.now task branch.point branch.field) }
 {
     let field = branch.field;
     if field + 1 == FIELDS {
@@ -135,8 +135,8 @@ pub(crate) fn known_alike(
     of_first: &[u16; LIMIT],
     of_second: &[u16; LIMIT],
 ) -> bool
-    requires { (branch.field < fieldCount) × BranchAt task.direction first.now second.now branch.field branch of_first.now of_second.now }
-    ensures { result ≡ true → fieldForm first.now second.now task branch.point branch.field ≡ [] }
+    requires { (branch.field < field_count) × BranchAt task.direction first.now second.now branch.field branch of_first.now of_second.now }
+    ensures { result ≡ true → field_form first.now second.now task branch.point branch.field ≡ [] }
 {
     if !all_listed(first, second) {
         return false;

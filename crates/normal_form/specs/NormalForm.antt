@@ -45,6 +45,6 @@ module _ {A : Type 0} (same? : Discrete A) where
   runs layout (suc v) = push v v (layout v) (runs layout v)
 
   -- The normal form of f over the fields: `none` is the leaf that makes no row (discard in a policy).
-  unfoldable pub normalForm : A → List ℕ → (List ℕ → A) → List (Row A)
-  normalForm none [] f = ite (same? (f []) none) [] (row [] (f []) ∷ [])
-  normalForm none (S ∷ Ss) f = rows_of (runs (λ v. normalForm none Ss (λ vs. f (v ∷ vs))) S)
+  unfoldable pub normal_form : A → List ℕ → (List ℕ → A) → List (Row A)
+  normal_form none [] f = ite (same? (f []) none) [] (row [] (f []) ∷ [])
+  normal_form none (S ∷ Ss) f = rows_of (runs (λ v. normal_form none Ss (λ vs. f (v ∷ vs))) S)

@@ -25,10 +25,10 @@ module _ {A : Type 0} where
   find_first none r rs vs e = rw e
 
   -- A row that does not hold the values is passed over.
-  pub find-skip : (none : A) (r : Row A) (rs : List (Row A)) (vs : List ℕ) → holds r.ranges vs ≡ false
+  pub find_skip : (none : A) (r : Row A) (rs : List (Row A)) (vs : List ℕ) → holds r.ranges vs ≡ false
       → find none (r ∷ rs) vs ≡ find none rs vs
   unfolding find
-  find-skip none r rs vs e = rw e
+  find_skip none r rs vs e = rw e
 
   -- A search of rows behind other rows is a search of the others that ends with it.
   pub find-append : (none : A) (xs ys : List (Row A)) (vs : List ℕ) → find none (xs ++ ys) vs ≡ find (find none ys vs) xs vs
@@ -44,18 +44,18 @@ module _ {A : Type 0} where
   find-under none l h v vs e (r ∷ rs) = rw e (ap (cond (holds r.ranges vs) r.leaf) (find-under none l h v vs e rs))
 
   -- Under a range that does not contain it, the search finds nothing.
-  pub find-outside : (none : A) (l h v : ℕ) (vs : List ℕ) → contains (range l h) v ≡ false → (L : List (Row A))
+  pub find_outside : (none : A) (l h v : ℕ) (vs : List ℕ) → contains (range l h) v ≡ false → (L : List (Row A))
       → find none (map (under l h) L) (v ∷ vs) ≡ none
   unfolding find holds
-  find-outside none l h v vs e [] = refl
-  find-outside none l h v vs e (r ∷ rs) = rw e (find-outside none l h v vs e rs)
+  find_outside none l h v vs e [] = refl
+  find_outside none l h v vs e (r ∷ rs) = rw e (find_outside none l h v vs e rs)
 
   -- What a search finds is the leaf of one of its rows, which holds the values.
-  pub find-mem : (none : A) (rows : List (Row A)) (vs : List ℕ) → find none rows vs ≢ none
+  pub find_mem : (none : A) (rows : List (Row A)) (vs : List ℕ) → find none rows vs ≢ none
       → (r : Row A) × Memᴰ r rows × (holds r.ranges vs ≡ true) × (r.leaf ≡ find none rows vs)
   unfolding find
-  find-mem none [] vs n = absurd (n refl)
-  find-mem none (r ∷ rs) vs n = by (holds r.ranges vs) refl (λ m. find-mem none rs vs m)
+  find_mem none [] vs n = absurd (n refl)
+  find_mem none (r ∷ rs) vs n = by (holds r.ranges vs) refl (λ m. find_mem none rs vs m)
     where
       Found : List (Row A) → A → Type 0
       Found rows a = (q : Row A) × Memᴰ q rows × (holds q.ranges vs ≡ true) × (q.leaf ≡ a)

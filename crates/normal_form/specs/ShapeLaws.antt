@@ -16,11 +16,11 @@ use Rattle.std.proofs.Math.ListN.{get_elem?, length}
 use Rattle.std.proofs.lemmas.List.{length-map}
 use Rattle.selectors.specs.Range.{Range, holds}
 use Rattle.normal_form.specs.Search.{Row, Combination, find}
-use Rattle.normal_form.specs.NormalForm.{Intervals, start, ◌▸◌, under, rows_of, normalForm}
-use Rattle.selectors.specs.RangeLaws.{contains-between}
-use Rattle.normal_form.specs.SearchLaws.{holds-cons, find_first, find-skip, find-mem}
-use Rattle.normal_form.specs.RunsLaws.{Runs, runs-longest}
-use Rattle.normal_form.specs.Laws.{leaf-cases, search-normal-form}
+use Rattle.normal_form.specs.NormalForm.{Intervals, start, ◌▸◌, under, rows_of, normal_form}
+use Rattle.selectors.specs.RangeLaws.{contains_between}
+use Rattle.normal_form.specs.SearchLaws.{holds-cons, find_first, find_skip, find_mem}
+use Rattle.normal_form.specs.RunsLaws.{Runs, runs_longest}
+use Rattle.normal_form.specs.Laws.{leaf_cases, search-normal_form}
 
 -- One range for each field, from a value of the field to one that is no smaller.
 unfoldable pub Fits : List ℕ → List Range → Type 0
@@ -62,35 +62,35 @@ fits-combination [] (r ∷ rs) vs f p = absurd f
 fits-combination (S ∷ Ss) [] vs f p = absurd f
 fits-combination (S ∷ Ss) (r ∷ rs) [] f p = false≢true p
 fits-combination (S ∷ Ss) (r ∷ rs) (v ∷ vs) f p =
-    let h = holds-cons r rs v vs p in (omega (arith, contains-between r v h.0), fits-combination Ss rs vs f.2 h.1)
+    let h = holds-cons r rs v vs p in (omega (arith, contains_between r v h.0), fits-combination Ss rs vs f.2 h.1)
 
 -- Of two rows, one before the other, no values are held by both.
-pub before-apart : (rs qs : List Range) (vs : List ℕ) → Before rs qs → holds rs vs ≡ true → holds qs vs ≡ true → ⊥
+pub before_apart : (rs qs : List Range) (vs : List ℕ) → Before rs qs → holds rs vs ≡ true → holds qs vs ≡ true → ⊥
 unfolding Before holds
-before-apart [] qs vs b p q = b
-before-apart (r ∷ rs) [] vs b p q = b
-before-apart (r ∷ rs) (q ∷ qs) [] b p p' = false≢true p
-before-apart (r ∷ rs) (q ∷ qs) (v ∷ vs) b p p' =
+before_apart [] qs vs b p q = b
+before_apart (r ∷ rs) [] vs b p q = b
+before_apart (r ∷ rs) (q ∷ qs) [] b p p' = false≢true p
+before_apart (r ∷ rs) (q ∷ qs) (v ∷ vs) b p p' =
     let h = holds-cons r rs v vs p in
     let h' = holds-cons q qs v vs p' in
     ⊎_elim
-    (λ lt. omega (arith, contains-between r v h.0, contains-between q v h'.0))
-    (λ e. before-apart rs qs vs e.1 h.1 h'.1)
+    (λ lt. omega (arith, contains_between r v h.0, contains_between q v h'.0))
+    (λ e. before_apart rs qs vs e.1 h.1 h'.1)
     b
 
 module _ {A : Type 0} where
   -- In sorted rows, a row that holds the values is the one that the search finds.
-  pub find-sorted : (none : A) (rows : List (Row A)) → Sorted rows → (r : Row A) → Memᴰ r rows → (vs : List ℕ) → holds r.ranges vs ≡ true
+  pub find_sorted : (none : A) (rows : List (Row A)) → Sorted rows → (r : Row A) → Memᴰ r rows → (vs : List ℕ) → holds r.ranges vs ≡ true
       → find none rows vs ≡ r.leaf
   unfolding Sorted
-  find-sorted none [] s r m vs h = absurd (Memᴰ.not-nil m)
-  find-sorted none (q ∷ qs) s r m vs h = by (Memᴰ.cases_cons m) (holds q.ranges vs) refl (λ m'. find-sorted none qs s.1 r m' vs h)
+  find_sorted none [] s r m vs h = absurd (Memᴰ.not-nil m)
+  find_sorted none (q ∷ qs) s r m vs h = by (Memᴰ.cases_cons m) (holds q.ranges vs) refl (λ m'. find_sorted none qs s.1 r m' vs h)
     where
       by : (r ≡ q) ⊎ Memᴰ r qs → (b : Bool) → holds q.ranges vs ≡ b → (Memᴰ r qs → find none qs vs ≡ r.leaf)
           → find none (q ∷ qs) vs ≡ r.leaf
       by (inl e) b hb ih = find_first none q qs vs (rw e at h) ∙ rw e
-      by (inr m') true hb ih = absurd (before-apart q.ranges r.ranges vs (s.0 r m') hb h)
-      by (inr m') false hb ih = find-skip none q qs vs hb ∙ ih m'
+      by (inr m') true hb ih = absurd (before_apart q.ranges r.ranges vs (s.0 r m') hb h)
+      by (inr m') false hb ih = find_skip none q qs vs hb ∙ ih m'
 
   at_mem : (xs : List (Row A)) (i : ℕ) (r : Row A) → get_elem? xs i ≡ some r → Memᴰ r xs
   at_mem [] i r e = absurd (none-ne-some r e)
@@ -101,7 +101,7 @@ module _ {A : Type 0} where
       → (vs : List ℕ) → holds r.ranges vs ≡ true → holds q.ranges vs ≡ true → ⊥
   unfolding Sorted
   head_apart x xs s r q j ei ej vs hr hq =
-      let e : x ≡ r = cc in before-apart x.ranges q.ranges vs (s.0 q (at_mem xs j q ej)) (rw e hr) hq
+      let e : x ≡ r = cc in before_apart x.ranges q.ranges vs (s.0 q (at_mem xs j q ej)) (rw e hr) hq
 
   -- In sorted rows, the places of two rows that hold the same values are one place.
   pub one_place : (rows : List (Row A)) → Sorted rows → (i j : ℕ) (r q : Row A) → get_elem? rows i ≡ some r → get_elem? rows j ≡ some q
@@ -114,14 +114,14 @@ module _ {A : Type 0} where
   one_place (x ∷ xs) s (suc i) (suc j) r q ei ej vs hr hq = ap suc (one_place xs s.1 i j r q ei ej vs hr hq)
 
   -- A row of the intervals is a row of the layout of an interval's lowest value, under that interval.
-  pub rows-mem : (k : ℕ → List (Row A)) (n : ℕ) (ts : Intervals A) → Runs k n ts → (r : Row A) → Memᴰ r (rows_of ts)
+  pub rows_mem : (k : ℕ → List (Row A)) (n : ℕ) (ts : Intervals A) → Runs k n ts → (r : Row A) → Memᴰ r (rows_of ts)
       → (l h : ℕ) × (q : Row A) × (l ≤ h) × (h < n) × Memᴰ q (k l) × (under l h q ≡ r)
   unfolding Runs rows_of
-  rows-mem k n start g r m = absurd (Memᴰ.not-nil m)
-  rows-mem k n (ts ▸ t) g r m =
+  rows_mem k n start g r m = absurd (Memᴰ.not-nil m)
+  rows_mem k n (ts ▸ t) g r m =
       ⊎_elim
       (λ m'.
-      let i = rows-mem k t.low ts g.4 r m' in
+      let i = rows_mem k t.low ts g.4 r m' in
       (i.0, i.1, i.2, i.3, omega arith, i.5, i.6))
       (λ m'.
       let i = Memᴰ.of_map (under t.low t.high) t.layout m' in
@@ -143,86 +143,86 @@ module _ {A : Type 0} where
   sorted-under l h (r ∷ rs) p =
       (λ q m. let i = Memᴰ.of_map (under l h) rs m in rw (← i.2) (inr (refl, p.0 i.0 i.1)), sorted-under l h rs p.1)
 
-  sorted-rows : (k : ℕ → List (Row A)) (n : ℕ) (ts : Intervals A) → Runs k n ts → ((v : ℕ) → v < n → Sorted (k v)) → Sorted (rows_of ts)
+  sorted_rows : (k : ℕ → List (Row A)) (n : ℕ) (ts : Intervals A) → Runs k n ts → ((v : ℕ) → v < n → Sorted (k v)) → Sorted (rows_of ts)
   unfolding Runs rows_of Sorted Before
-  sorted-rows k n start g s = tt
-  sorted-rows k n (ts ▸ t) g s =
+  sorted_rows k n start g s = tt
+  sorted_rows k n (ts ▸ t) g s =
       sorted-append (rows_of ts) _
-      (sorted-rows k t.low ts g.4 (λ v h. s v (omega arith)))
+      (sorted_rows k t.low ts g.4 (λ v h. s v (omega arith)))
       (sorted-under t.low t.high t.layout (rw (g.2 t.low (omega arith) g.0) at (s t.low (omega arith))))
       (λ r m q m'.
-      let i = rows-mem k t.low ts g.4 r m in
+      let i = rows_mem k t.low ts g.4 r m in
       let j = Memᴰ.of_map (under t.low t.high) t.layout m' in
       rw (← i.6, ← j.2) (inl i.4))
 
-  length-rows : (k : ℕ → List (Row A)) (n : ℕ) (ts : Intervals A) → Runs k n ts
+  length_rows : (k : ℕ → List (Row A)) (n : ℕ) (ts : Intervals A) → Runs k n ts
       → (b : ℕ) → ((v : ℕ) → v < n → length (k v) ≤ b) → length (rows_of ts) ≤ n * b
   unfolding Runs rows_of
-  length-rows k n start g b s = omega arith
-  length-rows k n (ts ▸ t) g b s =
+  length_rows k n start g b s = omega arith
+  length_rows k n (ts ▸ t) g b s =
       let last : length t.layout ≤ b = rw (g.2 t.low (omega arith) g.0) at (s t.low (omega arith)) in
-      let below : length (rows_of ts) ≤ t.low * b = length-rows k t.low ts g.4 b (λ v h. s v (omega arith)) in
+      let below : length (rows_of ts) ≤ t.low * b = length_rows k t.low ts g.4 b (λ v h. s v (omega arith)) in
       let room : suc t.low * b ≤ n * b = mul-le-mul_right b (omega arith) in
       simp (length-append, length-map) (omega arith)
 
 module _ {A : Type 0} (same? : Discrete A) (none : A) where
   -- A row has one range for each field, within it, and never the leaf that makes no row.
-  pub normal-form-fits : (sizes : List ℕ) (f : List ℕ → A) (r : Row A) → Memᴰ r (normalForm same? none sizes f)
+  pub normal_form_fits : (sizes : List ℕ) (f : List ℕ → A) (r : Row A) → Memᴰ r (normal_form same? none sizes f)
       → Fits sizes r.ranges × (r.leaf ≢ none)
-  unfolding normalForm Fits
-  normal-form-fits [] f r m =
+  unfolding normal_form Fits
+  normal_form_fits [] f r m =
       ⊎_elim
       (λ c. absurd (Memᴰ.not-nil (rw c.1 at m)))
       (λ c. rw (Memᴰ.eq_of_singleton (rw c.1 at m)) (tt, c.0))
-      (leaf-cases same? none f)
-  normal-form-fits (S ∷ Ss) f r m =
-      let i = rows-mem _ _ _ (runs-longest same? (λ u. normalForm same? none Ss (λ us. f (u ∷ us))) S) r m in
-      let ih = normal-form-fits Ss (λ us. f (i.0 ∷ us)) i.2 i.5 in
+      (leaf_cases same? none f)
+  normal_form_fits (S ∷ Ss) f r m =
+      let i = rows_mem _ _ _ (runs_longest same? (λ u. normal_form same? none Ss (λ us. f (u ∷ us))) S) r m in
+      let ih = normal_form_fits Ss (λ us. f (i.0 ∷ us)) i.2 i.5 in
       rw (← i.6) ((i.3, i.4, ih.0), ih.1)
 
   -- The rows stand in order.
-  pub normal-form-sorted : (sizes : List ℕ) (f : List ℕ → A) → Sorted (normalForm same? none sizes f)
-  unfolding normalForm Sorted
-  normal-form-sorted [] f =
-      ⊎_elim (λ c. rw c.1 tt) (λ c. rw c.1 (λ q m. absurd (Memᴰ.not-nil m), tt)) (leaf-cases same? none f)
-  normal-form-sorted (S ∷ Ss) f =
-      sorted-rows _ _ _ (runs-longest same? (λ u. normalForm same? none Ss (λ us. f (u ∷ us))) S)
-      (λ v h. normal-form-sorted Ss (λ us. f (v ∷ us)))
+  pub normal_form_sorted : (sizes : List ℕ) (f : List ℕ → A) → Sorted (normal_form same? none sizes f)
+  unfolding normal_form Sorted
+  normal_form_sorted [] f =
+      ⊎_elim (λ c. rw c.1 tt) (λ c. rw c.1 (λ q m. absurd (Memᴰ.not-nil m), tt)) (leaf_cases same? none f)
+  normal_form_sorted (S ∷ Ss) f =
+      sorted_rows _ _ _ (runs_longest same? (λ u. normal_form same? none Ss (λ us. f (u ∷ us))) S)
+      (λ v h. normal_form_sorted Ss (λ us. f (v ∷ us)))
 
   -- There are at most as many rows as combinations.
-  pub normal-form-length : (sizes : List ℕ) (f : List ℕ → A) → length (normalForm same? none sizes f) ≤ combinations sizes
-  unfolding normalForm combinations
-  normal-form-length [] f = ⊎_elim (λ c. rw c.1 (omega arith)) (λ c. rw c.1 (omega arith)) (leaf-cases same? none f)
-  normal-form-length (S ∷ Ss) f =
-      length-rows _ _ _ (runs-longest same? (λ u. normalForm same? none Ss (λ us. f (u ∷ us))) S) (combinations Ss)
-      (λ v h. normal-form-length Ss (λ us. f (v ∷ us)))
+  pub normal_form-length : (sizes : List ℕ) (f : List ℕ → A) → length (normal_form same? none sizes f) ≤ combinations sizes
+  unfolding normal_form combinations
+  normal_form-length [] f = ⊎_elim (λ c. rw c.1 (omega arith)) (λ c. rw c.1 (omega arith)) (leaf_cases same? none f)
+  normal_form-length (S ∷ Ss) f =
+      length_rows _ _ _ (runs_longest same? (λ u. normal_form same? none Ss (λ us. f (u ∷ us))) S) (combinations Ss)
+      (λ v h. normal_form-length Ss (λ us. f (v ∷ us)))
 
   -- A row that holds values has the function's leaf there.
-  pub normal-form-row : (sizes : List ℕ) (f : List ℕ → A) (r : Row A) → Memᴰ r (normalForm same? none sizes f)
+  pub normal_form-row : (sizes : List ℕ) (f : List ℕ → A) (r : Row A) → Memᴰ r (normal_form same? none sizes f)
       → (vs : List ℕ) → holds r.ranges vs ≡ true → r.leaf ≡ f vs
-  normal-form-row sizes f r m vs h =
-      sym (find-sorted none (normalForm same? none sizes f) (normal-form-sorted sizes f) r m vs h)
-      ∙ search-normal-form same? none sizes f vs (fits-combination sizes r.ranges vs (normal-form-fits sizes f r m).0 h)
+  normal_form-row sizes f r m vs h =
+      sym (find_sorted none (normal_form same? none sizes f) (normal_form_sorted sizes f) r m vs h)
+      ∙ search-normal_form same? none sizes f vs (fits-combination sizes r.ranges vs (normal_form_fits sizes f r m).0 h)
 
   -- Where the function has a leaf other than `none`, a row holds the values.
-  pub normal-form-covers : (sizes : List ℕ) (f : List ℕ → A) (vs : List ℕ) → Combination sizes vs → f vs ≢ none
-      → (r : Row A) × Memᴰ r (normalForm same? none sizes f) × (holds r.ranges vs ≡ true)
-  normal-form-covers sizes f vs ok n =
-      let m = find-mem none (normalForm same? none sizes f) vs (λ e. n (sym (search-normal-form same? none sizes f vs ok) ∙ e)) in
+  pub normal_form_covers : (sizes : List ℕ) (f : List ℕ → A) (vs : List ℕ) → Combination sizes vs → f vs ≢ none
+      → (r : Row A) × Memᴰ r (normal_form same? none sizes f) × (holds r.ranges vs ≡ true)
+  normal_form_covers sizes f vs ok n =
+      let m = find_mem none (normal_form same? none sizes f) vs (λ e. n (sym (search-normal_form same? none sizes f vs ok) ∙ e)) in
       (m.0, m.1, m.2)
 
   -- At most one row, by its place, holds the values.
-  pub normal-form-one : (sizes : List ℕ) (f : List ℕ → A) (i j : ℕ) (r q : Row A)
-      → get_elem? (normalForm same? none sizes f) i ≡ some r → get_elem? (normalForm same? none sizes f) j ≡ some q
+  pub normal_form_one : (sizes : List ℕ) (f : List ℕ → A) (i j : ℕ) (r q : Row A)
+      → get_elem? (normal_form same? none sizes f) i ≡ some r → get_elem? (normal_form same? none sizes f) j ≡ some q
       → (vs : List ℕ) → holds r.ranges vs ≡ true → holds q.ranges vs ≡ true → i ≡ j
-  normal-form-one sizes f = one_place (normalForm same? none sizes f) (normal-form-sorted sizes f)
+  normal_form_one sizes f = one_place (normal_form same? none sizes f) (normal_form_sorted sizes f)
 
   no_row : (sizes : List ℕ) (f : List ℕ → A) → ((vs : List ℕ) → Combination sizes vs → f vs ≡ none)
-      → (r : Row A) → Memᴰ r (normalForm same? none sizes f) → ⊥
-  unfolding normalForm Combination
-  no_row [] f e r m = ⊎_elim (λ c. Memᴰ.not-nil (rw c.1 at m)) (λ c. c.0 (e [] tt)) (leaf-cases same? none f)
+      → (r : Row A) → Memᴰ r (normal_form same? none sizes f) → ⊥
+  unfolding normal_form Combination
+  no_row [] f e r m = ⊎_elim (λ c. Memᴰ.not-nil (rw c.1 at m)) (λ c. c.0 (e [] tt)) (leaf_cases same? none f)
   no_row (S ∷ Ss) f e r m =
-      let i = rows-mem _ _ _ (runs-longest same? (λ u. normalForm same? none Ss (λ us. f (u ∷ us))) S) r m in
+      let i = rows_mem _ _ _ (runs_longest same? (λ u. normal_form same? none Ss (λ us. f (u ∷ us))) S) r m in
       no_row Ss (λ us. f (i.0 ∷ us)) (λ vs ok. e (i.0 ∷ vs) (omega (arith, i.3, i.4), ok)) i.2 i.5
 
   no_member : (L : List (Row A)) → ((r : Row A) → Memᴰ r L → ⊥) → L ≡ []
@@ -230,10 +230,10 @@ module _ {A : Type 0} (same? : Discrete A) (none : A) where
   no_member (r ∷ L) n = absurd (n r (Memᴰ.head refl))
 
   -- A normal form has no rows exactly where the function has no leaf but `none`.
-  pub normal-form-empty : (sizes : List ℕ) (f : List ℕ → A)
-      → (normalForm same? none sizes f ≡ []) ↔ ((vs : List ℕ) → Combination sizes vs → f vs ≡ none)
+  pub normal_form_empty : (sizes : List ℕ) (f : List ℕ → A)
+      → (normal_form same? none sizes f ≡ []) ↔ ((vs : List ℕ) → Combination sizes vs → f vs ≡ none)
   unfolding find
-  normal-form-empty sizes f = (
-    λ e vs ok. sym (search-normal-form same? none sizes f vs ok) ∙ ap (λ (L : List (Row A)). find none L vs) e,
-    λ e. no_member (normalForm same? none sizes f) (no_row sizes f e),
+  normal_form_empty sizes f = (
+    λ e vs ok. sym (search-normal_form same? none sizes f vs ok) ∙ ap (λ (L : List (Row A)). find none L vs) e,
+    λ e. no_member (normal_form same? none sizes f) (no_row sizes f e),
   )

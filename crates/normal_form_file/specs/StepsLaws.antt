@@ -4,22 +4,22 @@ use Rattle.std.proofs.Common.{ap, le-leb}
 use Rattle.std.proofs.lemmas.Simd.{map-map}
 use Rattle.std.proofs.lemmas.Bool.{lt-leb}
 use Rattle.selectors.specs.declared.Direction.{Direction}
-use Rattle.policy.specs.Policy.{bothWays}
-use Rattle.policy.specs.Words.{policyRows}
+use Rattle.policy.specs.Policy.{for_both_ways}
+use Rattle.policy.specs.Words.{policy_rows}
 use Rattle.policy_text.specs.Editions.{format_of, Rules, rows}
-use Rattle.policy_text.specs.Print.{policyText, toward}
-use Rattle.policy_print.specs.Printing.{printed, printedIn, printedRoom}
+use Rattle.policy_text.specs.Print.{policy_text, toward}
+use Rattle.policy_print.specs.Printing.{printed, printed_in, printed_room}
 use Rattle.policy_print.specs.declared.Printed.{Printed}
 use Rattle.policy_print.specs.declared.Printed.TheVariants.{Bytes, NoRoom as NoBytes}
 use Rattle.normal_form_file.specs.declared.Normalised.{Normalised}
 use Rattle.normal_form_file.specs.declared.Normalised.TheVariants.{Printed as Done, TooLarge, NoRoom as Short}
-use Rattle.decorrelate.specs.Form.{form, formWords}
-use Rattle.decorrelate.specs.FormLaws.{form-words-rows}
-use Rattle.normal_form_file.specs.Normalise.{formFile, normalised, normalisedBytes}
+use Rattle.decorrelate.specs.Form.{form, form_words}
+use Rattle.decorrelate.specs.FormLaws.{form_words_rows}
+use Rattle.normal_form_file.specs.Normalise.{form_file, normalised, normalised_bytes}
 
 -- The words of a normal form are printed as the normal-form file.
-pub printed-form : (d : Direction) (rs : Rules) (ws : List ℕ) → ws ≡ formWords (form d rs) → printed rs.edition d (policyRows ws) ≡ formFile d rs
-printed-form d rs ws e = rw (e, form-words-rows d rs) (ap (policyText (format_of rs.edition)) (map-map (toward d) bothWays (form d rs)))
+pub printed-form : (d : Direction) (rs : Rules) (ws : List ℕ) → ws ≡ form_words (form d rs) → printed rs.edition d (policy_rows ws) ≡ form_file d rs
+printed-form d rs ws e = rw (e, form_words_rows d rs) (ap (policy_text (format_of rs.edition)) (map-map (toward d) for_both_ways (form d rs)))
 
 -- The printer's answer as the call's.
 abbrev pub answered : Printed → Normalised
@@ -28,16 +28,16 @@ answered NoBytes = Short
 
 module _ (limit : ℕ) (d : Direction) (rs : Rules) (room : List ℕ) where
   pub too_large : limit < length (form d rs)
-      → (TooLarge d ≡ normalised limit d (length room) (rows rs)) × (room ≡ normalisedBytes limit d room (rows rs))
+      → (TooLarge d ≡ normalised limit d (length room) (rows rs)) × (room ≡ normalised_bytes limit d room (rows rs))
   too_large h = (rw (lt-leb (length (form d rs)) limit h), rw (lt-leb (length (form d rs)) limit h))
 
   pub printing : length (form d rs) ≤ limit
-      → (answered (printedIn (length room) (formFile d rs)) ≡ normalised limit d (length room) (rows rs))
-      × (printedRoom room (formFile d rs) ≡ normalisedBytes limit d room (rows rs))
-  printing h = by (leb (length (formFile d rs)) (length room)) refl
+      → (answered (printed_in (length room) (form_file d rs)) ≡ normalised limit d (length room) (rows rs))
+      × (printed_room room (form_file d rs) ≡ normalised_bytes limit d room (rows rs))
+  printing h = by (leb (length (form_file d rs)) (length room)) refl
     where
-      by : (b : Bool) → leb (length (formFile d rs)) (length room) ≡ b
-          → (answered (printedIn (length room) (formFile d rs)) ≡ normalised limit d (length room) (rows rs))
-          × (printedRoom room (formFile d rs) ≡ normalisedBytes limit d room (rows rs))
+      by : (b : Bool) → leb (length (form_file d rs)) (length room) ≡ b
+          → (answered (printed_in (length room) (form_file d rs)) ≡ normalised limit d (length room) (rows rs))
+          × (printed_room room (form_file d rs) ≡ normalised_bytes limit d room (rows rs))
       by true e = (rw (le-leb (length (form d rs)) limit h, e), rw (le-leb (length (form d rs)) limit h, e))
       by false e = (rw (le-leb (length (form d rs)) limit h, e), rw (le-leb (length (form d rs)) limit h, e))

@@ -1,9 +1,9 @@
 // Normalising: a policy file and a direction to the normal-form file (document 01, 'One normal form').
 ghost use Rattle.std.specs.Prelude.{◌≡◌, length};
-ghost use Rattle.policy.specs.Words.{policyRows, rowLimit};
-ghost use Rattle.policy_text.specs.Editions.{rules, rows, parsePolicy};
-ghost use Rattle.policy_print.specs.Printing.{printed, printedIn, printedRoom};
-ghost use Rattle.normal_form_file.specs.Normalise.{normalised, normalisedBytes};
+ghost use Rattle.policy.specs.Words.{policy_rows, row_limit};
+ghost use Rattle.policy_text.specs.Editions.{rules, rows, parse_policy};
+ghost use Rattle.policy_print.specs.Printing.{printed, printed_in, printed_room};
+ghost use Rattle.normal_form_file.specs.Normalise.{normalised, normalised_bytes};
 ghost use Rattle.normal_form_file.specs.StepsLaws.{answered};
 
 use decorrelate::Form;
@@ -25,8 +25,8 @@ pub enum Normalised {
 }
 
 fn print_rows(edition: Edition, rows: &[u64], direction: Direction, out: &mut [u8]) -> Normalised
-    ensures value { result ≡ answered (printedIn (length out.old) (printed edition direction (policyRows rows.now))) }
-    ensures out_after { out.new ≡ printedRoom out.old (printed edition direction (policyRows rows.now)) }
+    ensures value { result ≡ answered (printed_in (length out.old) (printed edition direction (policy_rows rows.now))) }
+    ensures out_after { out.new ≡ printed_room out.old (printed edition direction (policy_rows rows.now)) }
 {
     let done = policy_print::print(edition, rows, direction, out);
     match done {
@@ -37,8 +37,8 @@ fn print_rows(edition: Edition, rows: &[u64], direction: Direction, out: &mut [u
 
 // Lays a policy's rows out and prints them in its edition.
 fn print_form(edition: Edition, policy: &[u64], direction: Direction, out: &mut [u8]) -> Normalised
-    ensures value { result ≡ normalised rowLimit direction (length out.old) (rows (rules edition (policyRows policy.now))) }
-    ensures out_after { out.new ≡ normalisedBytes rowLimit direction out.old (rows (rules edition (policyRows policy.now))) }
+    ensures value { result ≡ normalised row_limit direction (length out.old) (rows (rules edition (policy_rows policy.now))) }
+    ensures out_after { out.new ≡ normalised_bytes row_limit direction out.old (rows (rules edition (policy_rows policy.now))) }
 {
     let mut words = [0u64; POLICY_WORDS];
     let form = decorrelate::form_of(edition, policy, direction, &mut words);
@@ -50,8 +50,8 @@ fn print_form(edition: Edition, policy: &[u64], direction: Direction, out: &mut 
 
 // The normal-form file of a policy file for a direction, at the start of the lent bytes; a refusal leaves them as they were.
 pub fn normalise(bytes: &[u8], direction: Direction, out: &mut [u8]) -> Normalised
-    ensures value { result ≡ normalised rowLimit direction (length out.old) (parsePolicy rowLimit bytes.now) }
-    ensures out_after { out.new ≡ normalisedBytes rowLimit direction out.old (parsePolicy rowLimit bytes.now) }
+    ensures value { result ≡ normalised row_limit direction (length out.old) (parse_policy row_limit bytes.now) }
+    ensures out_after { out.new ≡ normalised_bytes row_limit direction out.old (parse_policy row_limit bytes.now) }
 {
     let mut policy = [0u64; POLICY_WORDS];
     let file = policy_parse::parse_policy(bytes, &mut policy);

@@ -6,11 +6,11 @@
 // standard error says document 01's number and words. The exit status is 0 whatever comes of it: a refusal is told by an empty standard output, since
 // a normal-form file has its header line at least.
 ghost use Rattle.std.specs.Prelude.{◌≡◌, length};
-ghost use Rattle.policy.specs.Words.{rowLimit};
-ghost use Rattle.normal_form_file.specs.Normalise.{normalised, normalisedNumber};
-ghost use Rattle.policy_text.specs.Editions.{parsePolicy};
-ghost use Rattle.normalise.specs.Command.{directionAsked, Within};
-ghost use Rattle.normalise.specs.RoomLaws.{formBytes, Answered, IsFormFile};
+ghost use Rattle.policy.specs.Words.{row_limit};
+ghost use Rattle.normal_form_file.specs.Normalise.{normalised, normalised_number};
+ghost use Rattle.policy_text.specs.Editions.{parse_policy};
+ghost use Rattle.normalise.specs.Command.{direction_asked, Within};
+ghost use Rattle.normalise.specs.RoomLaws.{form_bytes, Answered, IsFormFile};
 
 use libc::{STDERR_FILENO, STDIN_FILENO, STDOUT_FILENO};
 use normal_form_file::Normalised;
@@ -57,7 +57,7 @@ fn usage() {
 }
 
 fn direction_asked(word: &[u8]) -> Asked
-    ensures { result ≡ directionAsked word.now }
+    ensures { result ≡ direction_asked word.now }
 {
     if same(word, b"out") {
         return Asked::For(Direction::Out);
@@ -139,15 +139,15 @@ fn print_normal_form(policy: &[u8], direction: Direction) {
 
 // The room is never too short.
 fn normal_form(policy: &[u8], direction: Direction, text: &mut [u8; FORM_BYTES]) -> Normalised
-    ensures value { result ≡ normalised rowLimit direction formBytes (parsePolicy rowLimit policy.now) }
-    ensures answered { Answered direction (parsePolicy rowLimit policy.now) text.new result }
+    ensures value { result ≡ normalised row_limit direction form_bytes (parse_policy row_limit policy.now) }
+    ensures answered { Answered direction (parse_policy row_limit policy.now) text.new result }
 {
     normal_form_file::normalise(policy, direction, text)
 }
 
 // Nothing but the normal-form file of the policy file for the direction is written on standard output.
 fn write_file(text: &[u8], policy: &[u8], direction: Direction)
-    requires { IsFormFile direction (parsePolicy rowLimit policy.now) text.now }
+    requires { IsFormFile direction (parse_policy row_limit policy.now) text.now }
 {
     if !io::write_all(STDOUT_FILENO, text) {
         fail(b"standard output");
@@ -156,7 +156,7 @@ fn write_file(text: &[u8], policy: &[u8], direction: Direction)
 
 // The line of a refusal: document 01's answer for the policy file and the direction.
 fn refuse(answer: Normalised, policy: &[u8], direction: Direction)
-    requires { answer ≡ normalised rowLimit direction formBytes (parsePolicy rowLimit policy.now) }
+    requires { answer ≡ normalised row_limit direction form_bytes (parse_policy row_limit policy.now) }
 {
     io::write_all(STDERR_FILENO, b"normalise: ");
     io::print_decimal(STDERR_FILENO, answer_numbers::normalised_number(answer));

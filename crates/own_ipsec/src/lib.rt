@@ -1,9 +1,9 @@
 // AH and ESP for the gateway itself (document 01, 'Coming in from outside').
 ghost use Rattle.std.specs.Prelude.{◌≡◌, ◌+◌, ◌-◌, ◌≤◌, cond, eqb};
 ghost use Rattle.selectors.specs.Value.{number};
-ghost use Rattle.sad.specs.Pairs.{espProtocol, ahProtocol, pairs};
-ghost use Rattle.verdicts.specs.Calls.{espBytes, forGateway, fragment, esp, leastUpper, spiOf, toIpsec};
-ghost use Rattle.own_ipsec.specs.Own.{ownAnswer};
+ghost use Rattle.sad.specs.Pairs.{esp_protocol, ah_protocol, pairs};
+ghost use Rattle.verdicts.specs.Calls.{esp_bytes, for_gateway, fragment, esp, least_upper, spi_of, to_ipsec};
+ghost use Rattle.own_ipsec.specs.Own.{own_answer};
 
 use packet::Packet;
 use sad::{AH, ESP, TABLE_WORDS};
@@ -38,7 +38,7 @@ fn has_protocol(packet: Packet, wanted: u64) -> bool
 
 // Whether this is AH or ESP for the gateway, whose own address is given.
 fn for_gateway(address: u64, packet: Packet) -> bool
-    ensures { result ≡ forGateway address packet }
+    ensures { result ≡ for_gateway address packet }
 {
     let selectors = packet.selectors;
     let local = selectors.local;
@@ -66,7 +66,7 @@ fn is_fragment(packet: Packet) -> bool
 
 // The fewest bytes that an upper part of ESP or AH may have.
 fn least_upper(packet: Packet) -> usize
-    ensures { result ≡ leastUpper packet }
+    ensures { result ≡ least_upper packet }
 {
     if has_protocol(packet, ESP) {
         return ESP_BYTES;
@@ -86,7 +86,7 @@ fn upper_length(packet: Packet) -> usize
 
 // The protocol of AH or ESP.
 fn protocol_of(packet: Packet) -> u64
-    ensures { result ≡ cond (esp packet) espProtocol ahProtocol }
+    ensures { result ≡ cond (esp packet) esp_protocol ah_protocol }
 {
     if has_protocol(packet, ESP) {
         return ESP;
@@ -96,8 +96,8 @@ fn protocol_of(packet: Packet) -> u64
 
 // The SPI is upper bytes 0 to 3 for ESP, 4 to 7 for AH.
 fn spi_of(bytes: &[u8], packet: Packet) -> u32
-    requires { packet.upper + espBytes ≤ packet.end }
-    ensures { result ≡ spiOf bytes.now packet }
+    requires { packet.upper + esp_bytes ≤ packet.end }
+    ensures { result ≡ spi_of bytes.now packet }
 {
     if has_protocol(packet, ESP) {
         return packet::four_at(bytes, packet.upper) as u32;
@@ -107,8 +107,8 @@ fn spi_of(bytes: &[u8], packet: Packet) -> u32
 
 // What becomes of AH or ESP for the gateway.
 fn to_ipsec(table: &[u64; TABLE_WORDS], bytes: &[u8], packet: Packet) -> Verdict
-    requires { number packet.selectors.protocol ≡ cond (esp packet) espProtocol ahProtocol }
-    ensures { result ≡ toIpsec (pairs table.now) bytes.now packet }
+    requires { number packet.selectors.protocol ≡ cond (esp packet) esp_protocol ah_protocol }
+    ensures { result ≡ to_ipsec (pairs table.now) bytes.now packet }
 {
     if is_fragment(packet) {
         return Verdict::IpsecFragment;
@@ -126,7 +126,7 @@ fn to_ipsec(table: &[u64; TABLE_WORDS], bytes: &[u8], packet: Packet) -> Verdict
 
 // The answer to AH or ESP for the gateway, whose own address is given.
 pub fn answer(address: u64, table: &[u64; TABLE_WORDS], bytes: &[u8], packet: Packet) -> Own
-    ensures { result ≡ ownAnswer address (pairs table.now) bytes.now packet }
+    ensures { result ≡ own_answer address (pairs table.now) bytes.now packet }
 {
     if !for_gateway(address, packet) {
         return Own::NotOwn;

@@ -16,63 +16,63 @@ two p i = byte p i * 256 + byte p (i + 1)
 unfoldable pub four : List ℕ → ℕ → ℕ
 four p i = two p i * 65536 + two p (i + 2)
 
--- Where the fields stand that are read beside the first byte, which has the version and the header length. The byte at `flagsAt` has the
+-- Where the fields stand that are read beside the first byte, which has the version and the header length. The byte at `flags_at` has the
 -- flags in its upper three bits; its lower five and the next byte are the fragment offset.
-abbrev pub totalLengthAt : ℕ
-totalLengthAt = 2
+abbrev pub total_length_at : ℕ
+total_length_at = 2
 
-abbrev pub flagsAt : ℕ
-flagsAt = 6
+abbrev pub flags_at : ℕ
+flags_at = 6
 
-abbrev pub protocolAt : ℕ
-protocolAt = 9
+abbrev pub protocol_at : ℕ
+protocol_at = 9
 
-abbrev pub sourceAt : ℕ
-sourceAt = 12
+abbrev pub source_at : ℕ
+source_at = 12
 
-abbrev pub destinationAt : ℕ
-destinationAt = 16
+abbrev pub destination_at : ℕ
+destination_at = 16
 
 -- The shortest header in bytes, the unit of the header length field, and so the least that the field may say.
-abbrev pub shortestHeader : ℕ
-shortestHeader = 20
+abbrev pub shortest_header : ℕ
+shortest_header = 20
 
-abbrev pub lengthUnit : ℕ
-lengthUnit = 4
+abbrev pub length_unit : ℕ
+length_unit = 4
 
-abbrev pub shortestField : ℕ
-shortestField = shortestHeader / lengthUnit
+abbrev pub shortest_field : ℕ
+shortest_field = shortest_header / length_unit
 
 -- IPv4's version.
-abbrev pub ipVersion : ℕ
-ipVersion = 4
+abbrev pub ip_version : ℕ
+ip_version = 4
 
 abbrev pub version : List ℕ → ℕ
 version p = byte p 0 / 16
 
--- The header length field, in units of `lengthUnit` bytes.
-abbrev pub headerField : List ℕ → ℕ
-headerField p = byte p 0 % 16
+-- The header length field, in units of `length_unit` bytes.
+abbrev pub header_field : List ℕ → ℕ
+header_field p = byte p 0 % 16
 
 -- Where the header ends and the upper part begins.
-abbrev pub headerEnd : List ℕ → ℕ
-headerEnd p = lengthUnit * headerField p
+abbrev pub header_end : List ℕ → ℕ
+header_end p = length_unit * header_field p
 
-abbrev pub totalLength : List ℕ → ℕ
-totalLength p = two p totalLengthAt
+abbrev pub total_length : List ℕ → ℕ
+total_length p = two p total_length_at
 
-abbrev pub moreFragments : List ℕ → Bool
-moreFragments p = eqb (byte p flagsAt / 32 % 2) 1
+abbrev pub more_fragments_of : List ℕ → Bool
+more_fragments_of p = eqb (byte p flags_at / 32 % 2) 1
 
 -- The fragment offset, in units of eight bytes.
-abbrev pub fragmentOffset : List ℕ → ℕ
-fragmentOffset p = byte p flagsAt % 32 * 256 + byte p (flagsAt + 1)
+abbrev pub fragment_offset : List ℕ → ℕ
+fragment_offset p = byte p flags_at % 32 * 256 + byte p (flags_at + 1)
 
 abbrev pub protocol : List ℕ → ℕ
-protocol p = byte p protocolAt
+protocol p = byte p protocol_at
 
 abbrev pub source : List ℕ → ℕ
-source p = four p sourceAt
+source p = four p source_at
 
 abbrev pub destination : List ℕ → ℕ
-destination p = four p destinationAt
+destination p = four p destination_at

@@ -5,53 +5,53 @@ use Rattle.selectors.specs.declared.Value.{Value}
 use Rattle.selectors.specs.declared.Selectors.{Selectors}
 use Rattle.selectors.specs.declared.Direction.{Direction}
 use Rattle.selectors.specs.declared.Direction.TheVariants.{Out, In}
-use Rattle.packet.specs.Header.{two, shortestHeader, shortestField, ipVersion, version, headerField, headerEnd, totalLength, moreFragments, fragmentOffset, protocol, source, destination}
+use Rattle.packet.specs.Header.{two, shortest_header, shortest_field, ip_version, version, header_field, header_end, total_length, more_fragments_of, fragment_offset, protocol, source, destination}
 use Rattle.packet.specs.declared.Packet.{Packet}
 use Rattle.packet.specs.declared.Reading.{Reading}
 use Rattle.packet.specs.declared.Reading.TheVariants.{Readable, Unreadable}
 
 -- 'At least 20 bytes, version 4, header length field at least 5, total length at least 4 times that field'.
-unfoldable pub headerGood : List ℕ → Bool
-headerGood p = leb shortestHeader (length p) && (eqb (version p) ipVersion && (leb shortestField (headerField p) && leb (headerEnd p) (totalLength p)))
+unfoldable pub header_good : List ℕ → Bool
+header_good p = leb shortest_header (length p) && (eqb (version p) ip_version && (leb shortest_field (header_field p) && leb (header_end p) (total_length p)))
 
 -- A readable packet: and the total length is 'at most the bytes lent'.
 unfoldable pub readable : List ℕ → Bool
-readable p = headerGood p && leb (totalLength p) (length p)
+readable p = header_good p && leb (total_length p) (length p)
 
 -- A triggering header: 'its header must be there whole, but its total length may exceed the bytes there'.
-unfoldable pub triggerReadable : List ℕ → Bool
-triggerReadable p = headerGood p && leb (headerEnd p) (length p)
+unfoldable pub trigger_readable : List ℕ → Bool
+trigger_readable p = header_good p && leb (header_end p) (length p)
 
 -- 'Protocols 6, 17, 132' have ports.
-unfoldable pub hasPorts : ℕ → Bool
-hasPorts n = eqb n 6 || (eqb n 17 || eqb n 132)
+unfoldable pub carries_ports : ℕ → Bool
+carries_ports n = eqb n 6 || (eqb n 17 || eqb n 132)
 
-abbrev pub isIcmp : ℕ → Bool
-isIcmp n = eqb n 1
+abbrev pub is_icmp : ℕ → Bool
+is_icmp n = eqb n 1
 
 -- What the upper part shows: a source and a destination port, an ICMP type * 256 + code, or nothing.
 pub data Shown : Type 0 where
   ports : ℕ → ℕ → Shown
-  typeAndCode : ℕ → Shown
+  type_and_code : ℕ → Shown
   nothing : Shown
 
 -- 'Source and destination port are the first four bytes of the upper part'; ICMP 'needs two upper bytes'.
-abbrev pub portsBytes : ℕ
-portsBytes = 4
+abbrev pub ports_bytes : ℕ
+ports_bytes = 4
 
-abbrev pub destinationPortAt : ℕ
-destinationPortAt = 2
+abbrev pub destination_port_at : ℕ
+destination_port_at = 2
 
-abbrev pub typeAndCodeBytes : ℕ
-typeAndCodeBytes = 2
+abbrev pub type_and_code_bytes : ℕ
+type_and_code_bytes = 2
 
 -- The upper part runs from the header's end to `end`. 'Other protocols, a fragment offset other than 0, or too few upper bytes: both absent'.
 unfoldable pub shown : List ℕ → ℕ → Shown
 shown p end =
-    cond (eqb (fragmentOffset p) 0 && (hasPorts (protocol p) && leb (headerEnd p + portsBytes) end))
-    (ports (two p (headerEnd p)) (two p (headerEnd p + destinationPortAt)))
-    (cond (eqb (fragmentOffset p) 0 && (isIcmp (protocol p) && leb (headerEnd p + typeAndCodeBytes) end))
-    (typeAndCode (two p (headerEnd p)))
+    cond (eqb (fragment_offset p) 0 && (carries_ports (protocol p) && leb (header_end p + ports_bytes) end))
+    (ports (two p (header_end p)) (two p (header_end p + destination_port_at)))
+    (cond (eqb (fragment_offset p) 0 && (is_icmp (protocol p) && leb (header_end p + type_and_code_bytes) end))
+    (type_and_code (two p (header_end p)))
     nothing)
 
 -- 'Going out, local is the source; coming in, local is the destination.' ICMP's type and code 'stands as local port, whoever sent it'.
@@ -63,65 +63,65 @@ abbrev pub remote : Direction → ℕ → ℕ → ℕ
 remote Out s d = d
 remote In s d = s
 
-abbrev pub localPort : Direction → Shown → ℕ
-localPort d (ports s t) = local d s t
-localPort d (typeAndCode n) = n
-localPort d nothing = absent
+abbrev pub local_port_of : Direction → Shown → ℕ
+local_port_of d (ports s t) = local d s t
+local_port_of d (type_and_code n) = n
+local_port_of d nothing = absent
 
-abbrev pub remotePort : Direction → Shown → ℕ
-remotePort d (ports s t) = remote d s t
-remotePort d (typeAndCode n) = absent
-remotePort d nothing = absent
+abbrev pub remote_port_of : Direction → Shown → ℕ
+remote_port_of d (ports s t) = remote d s t
+remote_port_of d (type_and_code n) = absent
+remote_port_of d nothing = absent
 
 -- A number below 2^64 as a value.
 abbrev pub value : ℕ → Value
 value n = record { upper = 0; lower = n }
 
-abbrev pub selectorsOf : Direction → List ℕ → Shown → Selectors
-selectorsOf d p s =
+abbrev pub selectors_in : Direction → List ℕ → Shown → Selectors
+selectors_in d p s =
     record {
       local = value (local d (source p) (destination p));
       remote = value (remote d (source p) (destination p));
       protocol = value (protocol p);
-      local_port = value (localPort d s);
-      remote_port = value (remotePort d s);
+      local_port = value (local_port_of d s);
+      remote_port = value (remote_port_of d s);
     }
 
 -- All that is read, with the upper part up to `end`.
-abbrev pub packetOf : Direction → List ℕ → ℕ → Packet
-packetOf d p end =
+abbrev pub packet_of : Direction → List ℕ → ℕ → Packet
+packet_of d p end =
     record {
-      selectors = selectorsOf d p (shown p end);
-      offset = fragmentOffset p;
-      more_fragments = moreFragments p;
-      upper = headerEnd p;
+      selectors = selectors_in d p (shown p end);
+      offset = fragment_offset p;
+      more_fragments = more_fragments_of p;
+      upper = header_end p;
       end = end;
     }
 
 -- A packet: 'the upper part runs from header end to total length'.
-unfoldable pub readPacket : Direction → List ℕ → Reading
-readPacket d p = cond (readable p) (Readable (packetOf d p (totalLength p))) Unreadable
+unfoldable pub read_packet : Direction → List ℕ → Reading
+read_packet d p = cond (readable p) (Readable (packet_of d p (total_length p))) Unreadable
 
 -- A triggering header: 'the upper part ends at whichever comes first'.
-unfoldable pub readTrigger : Direction → List ℕ → Reading
-readTrigger d p = cond (triggerReadable p) (Readable (packetOf d p (min (totalLength p) (length p)))) Unreadable
+unfoldable pub read_trigger : Direction → List ℕ → Reading
+read_trigger d p = cond (trigger_readable p) (Readable (packet_of d p (min (total_length p) (length p)))) Unreadable
 
 -- 'The triggering header starts 8 bytes into the upper part'.
-abbrev pub triggerAt : ℕ
-triggerAt = 8
+abbrev pub trigger_at : ℕ
+trigger_at = 8
 
 -- The triggering header: 'from there to the upper part's end, empty if that end comes sooner.'
 -- (No upper part ends after the last byte lent.)
-unfoldable pub triggerOf : List ℕ → ℕ → ℕ → List ℕ
-triggerOf p upper end =
+unfoldable pub trigger_of : List ℕ → ℕ → ℕ → List ℕ
+trigger_of p upper end =
     let stop = min end (length p) in
-    let from = min (upper + triggerAt) stop in
+    let from = min (upper + trigger_at) stop in
     take (stop - from) (drop from p)
 
 -- 'A seen type 3, 4, 5, 11 or 12 (the error messages of RFC 1122)'.
-unfoldable pub errorType : ℕ → Bool
-errorType n = eqb n 3 || (eqb n 4 || (eqb n 5 || (eqb n 11 || eqb n 12)))
+unfoldable pub error_type : ℕ → Bool
+error_type n = eqb n 3 || (eqb n 4 || (eqb n 5 || (eqb n 11 || eqb n 12)))
 
 -- The type is seen where an ICMP packet's local port, type * 256 + code, is not absent.
-unfoldable pub icmpError : ℕ → ℕ → Bool
-icmpError protocol localPort = isIcmp protocol && (not (eqb localPort absent) && errorType (localPort / 256))
+unfoldable pub icmp_error : ℕ → ℕ → Bool
+icmp_error protocol local_port_of = is_icmp protocol && (not (eqb local_port_of absent) && error_type (local_port_of / 256))

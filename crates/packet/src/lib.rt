@@ -1,8 +1,8 @@
 // What the gateway sees in an IPv4 packet: five selectors, and what the packet calls need besides (document 01; docs/RULES.md, 'What is read in a packet').
 ghost use Rattle.std.specs.Prelude.{◌≡◌, ◌+◌, ◌-◌, ◌^◌, ◌≤◌, ◌<◌, min, length};
 ghost use Rattle.selectors.specs.Value.{number};
-ghost use Rattle.packet.specs.Header.{two, four, totalLengthAt, flagsAt, headerEnd, totalLength, fragmentOffset};
-ghost use Rattle.packet.specs.Read.{headerGood, hasPorts, shown, local, localPort, remotePort, value, packetOf, readPacket, readTrigger, triggerOf, errorType, icmpError};
+ghost use Rattle.packet.specs.Header.{two, four, total_length_at, flags_at, header_end, total_length, fragment_offset};
+ghost use Rattle.packet.specs.Read.{header_good, carries_ports, shown, local, local_port_of, remote_port_of, value, packet_of, read_packet, read_trigger, trigger_of, error_type, icmp_error};
 ghost use Rattle.packet.specs.StepsLaws.{Inside};
 
 use selectors::{ABSENT, Direction, Selectors, Value};
@@ -109,28 +109,28 @@ pub fn four_at(bytes: &[u8], i: usize) -> u64
 
 fn header_end(bytes: &[u8]) -> usize
     requires { 1 ≤ length bytes.now }
-    ensures { result ≡ headerEnd bytes.now }
+    ensures { result ≡ header_end bytes.now }
 {
     LENGTH_UNIT * (wide(bytes[0]) % 16) as usize
 }
 
 fn total_length(bytes: &[u8]) -> usize
-    requires { totalLengthAt + 2 ≤ length bytes.now }
-    ensures { result ≡ totalLength bytes.now }
+    requires { total_length_at + 2 ≤ length bytes.now }
+    ensures { result ≡ total_length bytes.now }
 {
     two_there(bytes, TOTAL_LENGTH_AT) as usize
 }
 
 fn fragment_offset(bytes: &[u8]) -> u64
-    requires { flagsAt + 2 ≤ length bytes.now }
-    ensures { result ≡ fragmentOffset bytes.now }
+    requires { flags_at + 2 ≤ length bytes.now }
+    ensures { result ≡ fragment_offset bytes.now }
 {
     wide(bytes[FLAGS_AT]) % 32 * 256 + wide(bytes[FLAGS_AT + 1])
 }
 
 // Whether this is a header that can be read, wherever the packet ends.
 fn header_good(bytes: &[u8]) -> bool
-    ensures { result ≡ headerGood bytes.now }
+    ensures { result ≡ header_good bytes.now }
 {
     if bytes.len() < SHORTEST_HEADER {
         return false;
@@ -147,7 +147,7 @@ fn header_good(bytes: &[u8]) -> bool
 
 // The protocols that have ports.
 fn has_ports(protocol: u64) -> bool
-    ensures { result ≡ hasPorts protocol }
+    ensures { result ≡ carries_ports protocol }
 {
     match protocol {
         6 | 17 | 132 => true,
@@ -157,7 +157,7 @@ fn has_ports(protocol: u64) -> bool
 
 // The types of the ICMP error messages.
 fn error_type(icmp_type: u64) -> bool
-    ensures { result ≡ errorType icmp_type }
+    ensures { result ≡ error_type icmp_type }
 {
     match icmp_type {
         3 | 4 | 5 | 11 | 12 => true,
@@ -185,8 +185,8 @@ struct Ports {
 // The ports that an upper part up to `end` shows.
 fn ports_at(bytes: &[u8], direction: Direction, end: usize) -> Ports
     requires { Inside bytes.now end }
-    ensures local_value { result.local ≡ value (localPort direction (shown bytes.now end)) }
-    ensures remote_value { result.remote ≡ value (remotePort direction (shown bytes.now end)) }
+    ensures local_value { result.local ≡ value (local_port_of direction (shown bytes.now end)) }
+    ensures remote_value { result.remote ≡ value (remote_port_of direction (shown bytes.now end)) }
 {
     let none = Ports {
         local: ABSENT,
@@ -225,7 +225,7 @@ fn ports_at(bytes: &[u8], direction: Direction, end: usize) -> Ports
 // All that is read, with the upper part up to `end`.
 fn packet_at(bytes: &[u8], direction: Direction, end: usize) -> Packet
     requires { Inside bytes.now end }
-    ensures { result ≡ packetOf direction bytes.now end }
+    ensures { result ≡ packet_of direction bytes.now end }
 {
     let ports = ports_at(bytes, direction, end);
     let local_port = ports.local;
@@ -252,7 +252,7 @@ fn packet_at(bytes: &[u8], direction: Direction, end: usize) -> Packet
 
 // Reads a packet that goes out or comes in.
 pub fn read(bytes: &[u8], direction: Direction) -> Reading
-    ensures { result ≡ readPacket direction bytes.now }
+    ensures { result ≡ read_packet direction bytes.now }
 {
     if !header_good(bytes) {
         return Reading::Unreadable;
@@ -272,7 +272,7 @@ fn least(a: usize, b: usize) -> usize
 
 // Reads a triggering header, whose packet may be cut.
 pub fn read_trigger(bytes: &[u8], direction: Direction) -> Reading
-    ensures { result ≡ readTrigger direction bytes.now }
+    ensures { result ≡ read_trigger direction bytes.now }
 {
     if !header_good(bytes) {
         return Reading::Unreadable;
@@ -287,7 +287,7 @@ pub fn read_trigger(bytes: &[u8], direction: Direction) -> Reading
 
 // The part of an ICMP error message that has the triggering header.
 pub fn trigger(bytes: &[u8], packet: Packet) -> &[u8]
-    ensures { result.now ≡ triggerOf bytes.now packet.upper packet.end }
+    ensures { result.now ≡ trigger_of bytes.now packet.upper packet.end }
 {
     let stop = least(packet.end, bytes.len());
     let length = past(TRIGGER_AT, past(packet.upper, stop));
@@ -297,7 +297,7 @@ pub fn trigger(bytes: &[u8], packet: Packet) -> &[u8]
 
 // Whether these are the selectors of an ICMP error message. (An absent port shows no type: 65,536 / 256 is none.)
 pub fn is_icmp_error(selectors: Selectors) -> bool
-    ensures { result ≡ icmpError (number selectors.protocol) (number selectors.local_port) }
+    ensures { result ≡ icmp_error (number selectors.protocol) (number selectors.local_port) }
 {
     let protocol = selectors.protocol;
     let port = selectors.local_port;

@@ -5,76 +5,76 @@ use Rattle.selectors.specs.declared.Direction.{Direction}
 use Rattle.selectors.specs.declared.Direction.TheVariants.{Out, In}
 use Rattle.selectors.specs.Range.{holds}
 use Rattle.normal_form.specs.Search.{Row, row, Combination, find}
-use Rattle.normal_form.specs.Laws.{search-normal-form, normal-form-ext, normal-form-canonical}
+use Rattle.normal_form.specs.Laws.{search-normal_form, normal_form_ext, normal_form_canonical}
 use Rattle.policy.specs.declared.Action.{Action}
 use Rattle.policy.specs.declared.Action.TheVariants.{Discard}
 use Rattle.policy.specs.declared.RowDirection.TheVariants.{Only}
 use Rattle.policy.specs.ActionLaws.{action-≟}
-use Rattle.policy.specs.Policy.{PolicyRow, appliesTo, matches, orderedSearch, policyNormalForm, as_row, asPolicy, bothWays}
+use Rattle.policy.specs.Policy.{PolicyRow, applies_to, matches, ordered_search, policy_normal_form, as_row, as_policy, for_both_ways}
 
 -- The first row either gives the answer or is passed over.
-pub search-hit : (d : Direction) (r : PolicyRow) (rs : List PolicyRow) (vs : List ℕ) → matches d r vs ≡ true
-    → orderedSearch d (r ∷ rs) vs ≡ r.action
-unfolding orderedSearch
-search-hit d r rs vs e = rw e
+pub search_hit : (d : Direction) (r : PolicyRow) (rs : List PolicyRow) (vs : List ℕ) → matches d r vs ≡ true
+    → ordered_search d (r ∷ rs) vs ≡ r.action
+unfolding ordered_search
+search_hit d r rs vs e = rw e
 
-pub search-miss : (d : Direction) (r : PolicyRow) (rs : List PolicyRow) (vs : List ℕ) → matches d r vs ≡ false
-    → orderedSearch d (r ∷ rs) vs ≡ orderedSearch d rs vs
-unfolding orderedSearch
-search-miss d r rs vs e = rw e
+pub search_miss : (d : Direction) (r : PolicyRow) (rs : List PolicyRow) (vs : List ℕ) → matches d r vs ≡ false
+    → ordered_search d (r ∷ rs) vs ≡ ordered_search d rs vs
+unfolding ordered_search
+search_miss d r rs vs e = rw e
 
 -- The rows for one direction, and the search as a search of those.
-unfoldable pub rowsFor : Direction → List PolicyRow → List (Row Action)
-rowsFor d [] = []
-rowsFor d (r ∷ rs) = cond (appliesTo r.direction d) (row r.ranges r.action ∷ rowsFor d rs) (rowsFor d rs)
+unfoldable pub rows_for : Direction → List PolicyRow → List (Row Action)
+rows_for d [] = []
+rows_for d (r ∷ rs) = cond (applies_to r.direction d) (row r.ranges r.action ∷ rows_for d rs) (rows_for d rs)
 
-pub search-find : (d : Direction) (rows : List PolicyRow) (vs : List ℕ) → orderedSearch d rows vs ≡ find Discard (rowsFor d rows) vs
-unfolding orderedSearch matches rowsFor find
+pub search-find : (d : Direction) (rows : List PolicyRow) (vs : List ℕ) → ordered_search d rows vs ≡ find Discard (rows_for d rows) vs
+unfolding ordered_search matches rows_for find
 search-find d [] vs = refl
-search-find d (r ∷ rs) vs = by (appliesTo r.direction d) refl (search-find d rs vs)
+search-find d (r ∷ rs) vs = by (applies_to r.direction d) refl (search-find d rs vs)
   where
-    by : (b : Bool) → appliesTo r.direction d ≡ b → orderedSearch d rs vs ≡ find Discard (rowsFor d rs) vs
-        → cond (appliesTo r.direction d && holds r.ranges vs) r.action (orderedSearch d rs vs)
-        ≡ find Discard (cond (appliesTo r.direction d) (row r.ranges r.action ∷ rowsFor d rs) (rowsFor d rs)) vs
+    by : (b : Bool) → applies_to r.direction d ≡ b → ordered_search d rs vs ≡ find Discard (rows_for d rs) vs
+        → cond (applies_to r.direction d && holds r.ranges vs) r.action (ordered_search d rs vs)
+        ≡ find Discard (cond (applies_to r.direction d) (row r.ranges r.action ∷ rows_for d rs) (rows_for d rs)) vs
     by true e ih = rw e (ap (cond (holds r.ranges vs) r.action) ih)
     by false e ih = rw e ih
 
-own-direction : (d : Direction) → appliesTo (Only d) d ≡ true
-own-direction Out = refl
-own-direction In = refl
+own_direction : (d : Direction) → applies_to (Only d) d ≡ true
+own_direction Out = refl
+own_direction In = refl
 
 -- The ordered search of rows read as a policy is the search of the rows.
-pub search-as-policy : (d : Direction) (rows : List (Row Action)) (vs : List ℕ) → orderedSearch d (asPolicy d rows) vs ≡ find Discard rows vs
-unfolding orderedSearch matches find
-search-as-policy d [] vs = refl
-search-as-policy d (r ∷ rs) vs = rw (own-direction d) (ap (cond (holds r.ranges vs) r.leaf) (search-as-policy d rs vs))
+pub search-as_policy : (d : Direction) (rows : List (Row Action)) (vs : List ℕ) → ordered_search d (as_policy d rows) vs ≡ find Discard rows vs
+unfolding ordered_search matches find
+search-as_policy d [] vs = refl
+search-as_policy d (r ∷ rs) vs = rw (own_direction d) (ap (cond (holds r.ranges vs) r.leaf) (search-as_policy d rs vs))
 
 -- The ordered search of rows for both directions, in whichever direction is asked, is the search of the rows.
-search-both-ways : (asked : Direction) (rows : List (Row Action)) (vs : List ℕ) → orderedSearch asked (map bothWays rows) vs ≡ find Discard rows vs
-unfolding orderedSearch matches find
-search-both-ways asked [] vs = refl
-search-both-ways asked (r ∷ rs) vs = ap (cond (holds r.ranges vs) r.leaf) (search-both-ways asked rs vs)
+search-both_ways : (asked : Direction) (rows : List (Row Action)) (vs : List ℕ) → ordered_search asked (map for_both_ways rows) vs ≡ find Discard rows vs
+unfolding ordered_search matches find
+search-both_ways asked [] vs = refl
+search-both_ways asked (r ∷ rs) vs = ap (cond (holds r.ranges vs) r.leaf) (search-both_ways asked rs vs)
 
 module _ (sizes : List ℕ) (d : Direction) where
   -- So searching the words of a normal form, in whichever direction is asked, is searching the policy in the direction of the normal form.
-  pub searching-both-ways : (rows : List PolicyRow) (asked : Direction) (vs : List ℕ) → Combination sizes vs
-      → orderedSearch asked (map bothWays (policyNormalForm sizes d rows)) vs ≡ orderedSearch d rows vs
-  searching-both-ways rows asked vs ok =
-      search-both-ways asked (policyNormalForm sizes d rows) vs ∙ search-normal-form action-≟ Discard sizes (orderedSearch d rows) vs ok
+  pub searching-both_ways : (rows : List PolicyRow) (asked : Direction) (vs : List ℕ) → Combination sizes vs
+      → ordered_search asked (map for_both_ways (policy_normal_form sizes d rows)) vs ≡ ordered_search d rows vs
+  searching-both_ways rows asked vs ok =
+      search-both_ways asked (policy_normal_form sizes d rows) vs ∙ search-normal_form action-≟ Discard sizes (ordered_search d rows) vs ok
 
   -- Demand 3 for rows. 'For every combination, searching either normal form for that way gives the action that searching its own policy gives.'
-  pub searching-normal-form : (rows : List PolicyRow) (vs : List ℕ) → Combination sizes vs
-      → orderedSearch d (asPolicy d (policyNormalForm sizes d rows)) vs ≡ orderedSearch d rows vs
-  searching-normal-form rows vs ok =
-      search-as-policy d (policyNormalForm sizes d rows) vs ∙ search-normal-form action-≟ Discard sizes (orderedSearch d rows) vs ok
+  pub searching-normal_form : (rows : List PolicyRow) (vs : List ℕ) → Combination sizes vs
+      → ordered_search d (as_policy d (policy_normal_form sizes d rows)) vs ≡ ordered_search d rows vs
+  searching-normal_form rows vs ok =
+      search-as_policy d (policy_normal_form sizes d rows) vs ∙ search-normal_form action-≟ Discard sizes (ordered_search d rows) vs ok
 
   -- 'Equal exactly when the ordered search for that way gives every combination the same action under both.'
-  pub same-normal-form : (ps qs : List PolicyRow)
-      → (policyNormalForm sizes d ps ≡ policyNormalForm sizes d qs)
-      ↔ ((vs : List ℕ) → Combination sizes vs → orderedSearch d ps vs ≡ orderedSearch d qs vs)
-  same-normal-form ps qs = normal-form-canonical action-≟ Discard sizes (orderedSearch d ps) (orderedSearch d qs)
+  pub same-normal_form : (ps qs : List PolicyRow)
+      → (policy_normal_form sizes d ps ≡ policy_normal_form sizes d qs)
+      ↔ ((vs : List ℕ) → Combination sizes vs → ordered_search d ps vs ≡ ordered_search d qs vs)
+  same-normal_form ps qs = normal_form_canonical action-≟ Discard sizes (ordered_search d ps) (ordered_search d qs)
 
   -- 'Normalising either normal-form file again for that way gives the same file.'
-  pub normalising-again : (rows : List PolicyRow)
-      → policyNormalForm sizes d (asPolicy d (policyNormalForm sizes d rows)) ≡ policyNormalForm sizes d rows
-  normalising-again rows = (same-normal-form _ rows).1 (searching-normal-form rows)
+  pub normalising_again : (rows : List PolicyRow)
+      → policy_normal_form sizes d (as_policy d (policy_normal_form sizes d rows)) ≡ policy_normal_form sizes d rows
+  normalising_again rows = (same-normal_form _ rows).1 (searching-normal_form rows)

@@ -3,8 +3,8 @@ ghost use Rattle.std.specs.Prelude.{◌≡◌, ◌+◌, ◌≤◌, length};
 ghost use Rattle.std.proofs.lemmas.List.Edits.{sets};
 ghost use Rattle.selectors.specs.Value.{combination};
 ghost use Rattle.selectors.specs.Words.{values_of};
-ghost use Rattle.policy.specs.Policy.{appliesTo, matches, matchFrom, orderedSearch};
-ghost use Rattle.policy.specs.Words.{directionOf, actionOf, rowWords, row_at, policyRows, endsOfRecord, wordsOfRecord};
+ghost use Rattle.policy.specs.Policy.{applies_to, matches, match_from, ordered_search};
+ghost use Rattle.policy.specs.Words.{direction_of, action_of_word, row_words, row_at, policy_rows, ends_of_record, words_of_record};
 
 use selectors::words::{
     FIELDS, RANGES_WORDS, SELECTOR_WORDS, put_ranges, put_word, ranges_hold, selector_words,
@@ -52,7 +52,7 @@ pub const LIMIT: usize = 256;
 pub const POLICY_WORDS: usize = LIMIT * ROW_WORDS;
 
 pub fn direction_of(word: u64) -> RowDirection
-    ensures { result ≡ directionOf word }
+    ensures { result ≡ direction_of word }
 {
     match word {
         1 => RowDirection::Only(Direction::Out),
@@ -62,7 +62,7 @@ pub fn direction_of(word: u64) -> RowDirection
 }
 
 pub fn action_of(word: u64) -> Action
-    ensures { result ≡ actionOf word }
+    ensures { result ≡ action_of_word word }
 {
     match word {
         0 => Action::Discard,
@@ -72,7 +72,7 @@ pub fn action_of(word: u64) -> Action
 }
 
 fn same_direction(a: Direction, b: Direction) -> bool
-    ensures { result ≡ appliesTo (RowDirection.Only a) b }
+    ensures { result ≡ applies_to (RowDirection.Only a) b }
 {
     match a {
         Direction::Out => match b {
@@ -88,7 +88,7 @@ fn same_direction(a: Direction, b: Direction) -> bool
 
 impl RowDirection {
     pub fn applies_to(self, direction: Direction) -> bool
-        ensures { result ≡ appliesTo self direction }
+        ensures { result ≡ applies_to self direction }
     {
         match self {
             RowDirection::Only(own) => same_direction(own, direction),
@@ -104,7 +104,7 @@ fn row_matches(
     direction: Direction,
     values: &[u64; SELECTOR_WORDS],
 ) -> bool
-    requires { at + rowWords ≤ length rows.now }
+    requires { at + row_words ≤ length rows.now }
     ensures { result ≡ matches direction (row_at rows.now at) (values_of values.now) }
 {
     if !direction_of(rows[at]).applies_to(direction) {
@@ -121,7 +121,7 @@ pub enum Found {
 }
 
 pub fn first_match(rows: &[u64], direction: Direction, selectors: Selectors) -> Found
-    ensures { result ≡ matchFrom 0 direction (policyRows rows.now) (combination selectors) }
+    ensures { result ≡ match_from 0 direction (policy_rows rows.now) (combination selectors) }
 {
     let values = selector_words(selectors);
     let count = rows.len() / ROW_WORDS;
@@ -137,7 +137,7 @@ pub fn first_match(rows: &[u64], direction: Direction, selectors: Selectors) -> 
 
 // The ordered search: the action of the first match, and discard where there is none.
 pub fn search(rows: &[u64], direction: Direction, selectors: Selectors) -> Action
-    ensures { result ≡ orderedSearch direction (policyRows rows.now) (combination selectors) }
+    ensures { result ≡ ordered_search direction (policy_rows rows.now) (combination selectors) }
 {
     let found = first_match(rows, direction, selectors);
     let Found::Row(row) = found else {
@@ -153,7 +153,7 @@ fn ends(low: Value, high: Value) -> Ends
 }
 
 fn ranges_of(row: Row) -> Ranges
-    ensures { result ≡ endsOfRecord row }
+    ensures { result ≡ ends_of_record row }
 {
     let local = row.local;
     let remote = row.remote;
@@ -171,7 +171,7 @@ fn ranges_of(row: Row) -> Ranges
 
 // Writes a row's words from a place on; a word that has no place is not written.
 pub fn put_row(rows: &mut [u64], at: usize, row: Row)
-    ensures { rows.new ≡ sets rows.old at (wordsOfRecord row) }
+    ensures { rows.new ≡ sets rows.old at (words_of_record row) }
 {
     if rows.len() <= at {
         return;

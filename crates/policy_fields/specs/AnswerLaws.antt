@@ -1,31 +1,31 @@
 -- Laws of the answers. Assumes nothing.
 use Rattle.std.specs.Prelude.{ℕ, ◌≡◌, refl, Bool, true, false, cond}
 use Rattle.std.proofs.Math.Option.{none, some}
-use Rattle.selectors.specs.Range.{range, inField, addressSize, protocolSize, portSize}
+use Rattle.selectors.specs.Range.{range, in_field, address_size, protocol_size, port_size}
 use Rattle.selectors.specs.ValueLaws.{number-lower}
-use Rattle.selectors.specs.Ranges.{newAddressRange, newProtocolRange, newPortRange}
+use Rattle.selectors.specs.Ranges.{new_address_range, new_protocol_range, new_port_range}
 use Rattle.policy_text.specs.Format.{made}
-use Rattle.policy_fields.specs.Answers.{small, addressFor, protocolFor, portFor}
+use Rattle.policy_fields.specs.Answers.{small, address_for, protocol_for, port_for}
 
 -- The constructors of ranges make the ranges of the definition.
 module _ (a b : ℕ) where
-  pub new-address : newAddressRange (small a) (small b) ≡ addressFor (made addressSize a b)
-  new-address = rw (number-lower (small a) refl, number-lower (small b) refl) (by (inField addressSize (range a b)))
+  pub new-address : new_address_range (small a) (small b) ≡ address_for (made address_size a b)
+  new-address = rw (number-lower (small a) refl, number-lower (small b) refl) (by (in_field address_size (range a b)))
     where
-      by : (t : Bool) → cond t (addressFor (some (range a b))) (addressFor none) ≡ addressFor (cond t (some (range a b)) none)
+      by : (t : Bool) → cond t (address_for (some (range a b))) (address_for none) ≡ address_for (cond t (some (range a b)) none)
       by true = refl
       by false = refl
 
-  pub new-protocol : newProtocolRange (small a) (small b) ≡ protocolFor (made protocolSize a b)
-  new-protocol = rw (number-lower (small a) refl, number-lower (small b) refl) (by (inField protocolSize (range a b)))
+  pub new-protocol : new_protocol_range (small a) (small b) ≡ protocol_for (made protocol_size a b)
+  new-protocol = rw (number-lower (small a) refl, number-lower (small b) refl) (by (in_field protocol_size (range a b)))
     where
-      by : (t : Bool) → cond t (protocolFor (some (range a b))) (protocolFor none) ≡ protocolFor (cond t (some (range a b)) none)
+      by : (t : Bool) → cond t (protocol_for (some (range a b))) (protocol_for none) ≡ protocol_for (cond t (some (range a b)) none)
       by true = refl
       by false = refl
 
-  pub new-port : newPortRange (small a) (small b) ≡ portFor (made portSize a b)
-  new-port = rw (number-lower (small a) refl, number-lower (small b) refl) (by (inField portSize (range a b)))
+  pub new_port : new_port_range (small a) (small b) ≡ port_for (made port_size a b)
+  new_port = rw (number-lower (small a) refl, number-lower (small b) refl) (by (in_field port_size (range a b)))
     where
-      by : (t : Bool) → cond t (portFor (some (range a b))) (portFor none) ≡ portFor (cond t (some (range a b)) none)
+      by : (t : Bool) → cond t (port_for (some (range a b))) (port_for none) ≡ port_for (cond t (some (range a b)) none)
       by true = refl
       by false = refl

@@ -11,58 +11,58 @@ use Rattle.selectors.specs.declared.NewPortRange.{NewPortRange}
 use Rattle.selectors.specs.declared.NewPortRange.TheVariants.{Made as PortMade, Refused as PortRefused}
 use Rattle.policy.specs.declared.Action.{Action}
 use Rattle.policy.specs.declared.RowDirection.{RowDirection}
-use Rattle.policy.specs.Words.{directionWord, actionWord, wordsOfRecord}
+use Rattle.policy.specs.Words.{direction_word, action_word, words_of_record}
 use Rattle.policy_text.specs.declared.Number.{Number}
 use Rattle.policy_text.specs.declared.Number.TheVariants.{Is, Bad}
 use Rattle.policy_fields.specs.declared.RowText.{RowText}
 use Rattle.policy_fields.specs.declared.RowText.TheVariants.{Row as RowIs, Bad as RowBad}
-use Rattle.policy_text.specs.Format.{directionField, field, fieldsFrom}
-use Rattle.policy_text.specs.Edition1.{addressField, protocolField, portField, actionField}
+use Rattle.policy_text.specs.Format.{direction_field, field, fields_from}
+use Rattle.policy_text.specs.Edition1.{address_field, protocol_field, port_field, action_field}
 
 -- A number of 64 bits as a value.
 abbrev pub small : ℕ → Value
 small n = record { upper = 0; lower = n }
 
-abbrev pub addressFor : Option Range → NewAddressRange
-addressFor none = AddressRefused
-addressFor (some r) = AddressMade (record { low = small r.low; high = small r.high })
+abbrev pub address_for : Option Range → NewAddressRange
+address_for none = AddressRefused
+address_for (some r) = AddressMade (record { low = small r.low; high = small r.high })
 
-abbrev pub protocolFor : Option Range → NewProtocolRange
-protocolFor none = ProtocolRefused
-protocolFor (some r) = ProtocolMade (record { low = small r.low; high = small r.high })
+abbrev pub protocol_for : Option Range → NewProtocolRange
+protocol_for none = ProtocolRefused
+protocol_for (some r) = ProtocolMade (record { low = small r.low; high = small r.high })
 
-abbrev pub portFor : Option Range → NewPortRange
-portFor none = PortRefused
-portFor (some r) = PortMade (record { low = small r.low; high = small r.high })
+abbrev pub port_for : Option Range → NewPortRange
+port_for none = PortRefused
+port_for (some r) = PortMade (record { low = small r.low; high = small r.high })
 
 -- Directions and actions as the words of a row.
-abbrev pub directionFor : Option RowDirection → Number
-directionFor none = Bad
-directionFor (some d) = Is (directionWord d)
+abbrev pub direction_for : Option RowDirection → Number
+direction_for none = Bad
+direction_for (some d) = Is (direction_word d)
 
-abbrev pub actionFor : Option Action → Number
-actionFor none = Bad
-actionFor (some a) = Is (actionWord a)
+abbrev pub action_for : Option Action → Number
+action_for none = Bad
+action_for (some a) = Is (action_word a)
 
 -- The entry of seven fields, if each is one.
-abbrev pub entryFor : Number → Number → NewAddressRange → NewAddressRange → NewProtocolRange → NewPortRange → NewPortRange → RowText
-entryFor Bad a l r p x y = RowBad
-entryFor (Is d) Bad l r p x y = RowBad
-entryFor (Is d) (Is a) AddressRefused r p x y = RowBad
-entryFor (Is d) (Is a) (AddressMade l) AddressRefused p x y = RowBad
-entryFor (Is d) (Is a) (AddressMade l) (AddressMade r) ProtocolRefused x y = RowBad
-entryFor (Is d) (Is a) (AddressMade l) (AddressMade r) (ProtocolMade p) PortRefused y = RowBad
-entryFor (Is d) (Is a) (AddressMade l) (AddressMade r) (ProtocolMade p) (PortMade x) PortRefused = RowBad
-entryFor (Is d) (Is a) (AddressMade l) (AddressMade r) (ProtocolMade p) (PortMade x) (PortMade y) =
+abbrev pub entry_for : Number → Number → NewAddressRange → NewAddressRange → NewProtocolRange → NewPortRange → NewPortRange → RowText
+entry_for Bad a l r p x y = RowBad
+entry_for (Is d) Bad l r p x y = RowBad
+entry_for (Is d) (Is a) AddressRefused r p x y = RowBad
+entry_for (Is d) (Is a) (AddressMade l) AddressRefused p x y = RowBad
+entry_for (Is d) (Is a) (AddressMade l) (AddressMade r) ProtocolRefused x y = RowBad
+entry_for (Is d) (Is a) (AddressMade l) (AddressMade r) (ProtocolMade p) PortRefused y = RowBad
+entry_for (Is d) (Is a) (AddressMade l) (AddressMade r) (ProtocolMade p) (PortMade x) PortRefused = RowBad
+entry_for (Is d) (Is a) (AddressMade l) (AddressMade r) (ProtocolMade p) (PortMade x) (PortMade y) =
     RowIs (record { direction = d; action = a; local = l; remote = r; protocol = p; local_port = x; remote_port = y })
 
-unfoldable pub entryOf : List ℕ → RowText
-entryOf s =
-    entryFor (directionFor (directionField (field 0 s))) (actionFor (actionField (field 1 s))) (addressFor (addressField (field 2 s)))
-    (addressFor (addressField (field 3 s))) (protocolFor (protocolField (field 4 s))) (portFor (portField (field 5 s)))
-    (portFor (portField (fieldsFrom 6 s)))
+unfoldable pub entry_of : List ℕ → RowText
+entry_of s =
+    entry_for (direction_for (direction_field (field 0 s))) (action_for (action_field (field 1 s))) (address_for (address_field (field 2 s)))
+    (address_for (address_field (field 3 s))) (protocol_for (protocol_field (field 4 s))) (port_for (port_field (field 5 s)))
+    (port_for (port_field (fields_from 6 s)))
 
 -- The words of a row's text; a bad row has none.
-abbrev pub textWords : RowText → List ℕ
-textWords RowBad = []
-textWords (RowIs e) = wordsOfRecord e
+abbrev pub text_words : RowText → List ℕ
+text_words RowBad = []
+text_words (RowIs e) = words_of_record e

@@ -12,23 +12,23 @@ use Rattle.policy.specs.declared.Row.{Row}
 use Rattle.policy_fields.specs.declared.RowText.{RowText}
 use Rattle.policy_fields.specs.declared.RowText.TheVariants.{Row as RowIs, Bad as RowBad}
 use Rattle.policy.specs.WrittenLaws.{record-length}
-use Rattle.policy_text.specs.Format.{directionField, field, fieldsFrom, rowMade, row_of, ontoRange, rangesFrom}
-use Rattle.policy_text.specs.Edition1.{addressField, protocolField, portField, actionField, edition1}
-use Rattle.policy.specs.Words.{rowWords, wordsOfRow, wordsOfRecord}
-use Rattle.policy_fields.specs.Answers.{small, addressFor, protocolFor, portFor, directionFor, actionFor, entryFor, entryOf, textWords}
+use Rattle.policy_text.specs.Format.{direction_field, field, fields_from, row_made_of, row_of, onto_range, ranges_from}
+use Rattle.policy_text.specs.Edition1.{address_field, protocol_field, port_field, action_field, edition1}
+use Rattle.policy.specs.Words.{row_words, words_of_row, words_of_record}
+use Rattle.policy_fields.specs.Answers.{small, address_for, protocol_for, port_for, direction_for, action_for, entry_for, entry_of, text_words}
 
 -- An entry stands for a row: there is none without the other, and the words are the same.
 abbrev pub EntryIs : RowText → Option PolicyRow → Type 0
 EntryIs RowBad none = Unit
 EntryIs RowBad (some r) = ⊥
 EntryIs (RowIs e) none = ⊥
-EntryIs (RowIs e) (some r) = wordsOfRecord e ≡ wordsOfRow r
+EntryIs (RowIs e) (some r) = words_of_record e ≡ words_of_row r
 
 number_small : (n : ℕ) → number (small n) ≡ n
 number_small n = number-lower (small n) refl
 
 seven : (d : Option RowDirection) (a : Option Action) (l r p x y : Option Range)
-    → EntryIs (entryFor (directionFor d) (actionFor a) (addressFor l) (addressFor r) (protocolFor p) (portFor x) (portFor y)) (rowMade d a (ontoRange l (ontoRange r (ontoRange p (ontoRange x (ontoRange y (some [])))))))
+    → EntryIs (entry_for (direction_for d) (action_for a) (address_for l) (address_for r) (protocol_for p) (port_for x) (port_for y)) (row_made_of d a (onto_range l (onto_range r (onto_range p (onto_range x (onto_range y (some [])))))))
 seven none a l r p x y = tt
 seven (some d) none l r p x y = tt
 seven (some d) (some a) none r p x y = tt
@@ -38,31 +38,31 @@ seven (some d) (some a) (some l) (some r) (some p) none y = tt
 seven (some d) (some a) (some l) (some r) (some p) (some x) none = tt
 seven (some d) (some a) (some l) (some r) (some p) (some x) (some y) = simp number_small
 
-pub entry-is : (s : List ℕ) → EntryIs (entryOf s) (row_of edition1 s)
-unfolding entryOf row_of rangesFrom
-entry-is s =
-    seven (directionField (field 0 s)) (actionField (field 1 s)) (addressField (field 2 s)) (addressField (field 3 s)) (protocolField (field 4 s))
-    (portField (field 5 s)) (portField (fieldsFrom 6 s))
+pub entry_is : (s : List ℕ) → EntryIs (entry_of s) (row_of edition1 s)
+unfolding entry_of row_of ranges_from
+entry_is s =
+    seven (direction_field (field 0 s)) (action_field (field 1 s)) (address_field (field 2 s)) (address_field (field 3 s)) (protocol_field (field 4 s))
+    (port_field (field 5 s)) (port_field (fields_from 6 s))
 
-row-none : (o : Option PolicyRow) → EntryIs RowBad o → o ≡ none
-row-none none h = refl
-row-none (some r) h = absurd h
+row_none : (o : Option PolicyRow) → EntryIs RowBad o → o ≡ none
+row_none none h = refl
+row_none (some r) h = absurd h
 
-row-some : (e : Row) (o : Option PolicyRow) → EntryIs (RowIs e) o → (r : PolicyRow) × ((o ≡ some r) × (wordsOfRecord e ≡ wordsOfRow r))
-row-some e none h = absurd h
-row-some e (some r) h = (r, (refl, h))
+row_some : (e : Row) (o : Option PolicyRow) → EntryIs (RowIs e) o → (r : PolicyRow) × ((o ≡ some r) × (words_of_record e ≡ words_of_row r))
+row_some e none h = absurd h
+row_some e (some r) h = (r, (refl, h))
 
 -- A line whose entry is bad is no row, and a line whose entry is none is one.
-pub bad-none : (l : List ℕ) → entryOf l ≡ RowBad → row_of edition1 l ≡ none
-bad-none l e = row-none (row_of edition1 l) (rw e at (entry-is l))
+pub bad_none : (l : List ℕ) → entry_of l ≡ RowBad → row_of edition1 l ≡ none
+bad_none l e = row_none (row_of edition1 l) (rw e at (entry_is l))
 
-pub entry-some : (l : List ℕ) (e : Row) → entryOf l ≡ RowIs e → (r : PolicyRow) × ((row_of edition1 l ≡ some r) × (wordsOfRecord e ≡ wordsOfRow r))
-entry-some l e q = row-some e (row_of edition1 l) (rw q at (entry-is l))
+pub entry_some : (l : List ℕ) (e : Row) → entry_of l ≡ RowIs e → (r : PolicyRow) × ((row_of edition1 l ≡ some r) × (words_of_record e ≡ words_of_row r))
+entry_some l e q = row_some e (row_of edition1 l) (rw q at (entry_is l))
 
-words-some : (t : RowText) (r : PolicyRow) → EntryIs t (some r) → (textWords t ≡ wordsOfRow r) × (length (wordsOfRow r) ≡ rowWords)
-words-some RowBad r h = absurd h
-words-some (RowIs e) r h = (h, sym (ap length h) ∙ record-length e)
+words_some : (t : RowText) (r : PolicyRow) → EntryIs t (some r) → (text_words t ≡ words_of_row r) × (length (words_of_row r) ≡ row_words)
+words_some RowBad r h = absurd h
+words_some (RowIs e) r h = (h, sym (ap length h) ∙ record-length e)
 
 -- The words of a line that is a row.
-pub line-words : (l : List ℕ) (r : PolicyRow) → row_of edition1 l ≡ some r → (textWords (entryOf l) ≡ wordsOfRow r) × (length (wordsOfRow r) ≡ rowWords)
-line-words l r q = words-some (entryOf l) r (rw q at (entry-is l))
+pub line-words : (l : List ℕ) (r : PolicyRow) → row_of edition1 l ≡ some r → (text_words (entry_of l) ≡ words_of_row r) × (length (words_of_row r) ≡ row_words)
+line-words l r q = words_some (entry_of l) r (rw q at (entry_is l))

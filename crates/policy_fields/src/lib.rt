@@ -1,9 +1,9 @@
 // The fields of a row, and the row.
 ghost use Rattle.std.specs.Prelude.{◌≡◌};
-ghost use Rattle.selectors.specs.Range.{addressSize, protocolSize, portSize};
-ghost use Rattle.policy_text.specs.Format.{spanned, directionField};
-ghost use Rattle.policy_text.specs.Edition1.{address, isMask, maskedRange, addressField, protocolField, portEnd, portField, actionField, protect};
-ghost use Rattle.policy_fields.specs.Answers.{small, addressFor, protocolFor, portFor, directionFor, actionFor, entryFor, entryOf};
+ghost use Rattle.selectors.specs.Range.{address_size, protocol_size, port_size};
+ghost use Rattle.policy_text.specs.Format.{spanned, direction_field};
+ghost use Rattle.policy_text.specs.Edition1.{address, is_mask, masked_range, address_field, protocol_field, port_end, port_field, action_field, protect};
+ghost use Rattle.policy_fields.specs.Answers.{small, address_for, protocol_for, port_for, direction_for, action_for, entry_for, entry_of};
 ghost use Rattle.policy_text.specs.FormatLaws.{AtMost};
 
 use policy::Row;
@@ -48,7 +48,7 @@ fn address(s: &[u8]) -> Number
 
 // Whether a number of 32 bits is ones followed by zeros.
 fn is_mask(m: u64) -> bool
-    ensures { result ≡ isMask m }
+    ensures { result ≡ is_mask m }
 {
     let mut zeros: u64 = 33;
     let mut power: u64 = 8589934592;
@@ -65,7 +65,7 @@ fn is_mask(m: u64) -> bool
 // The addresses of address/mask.
 fn masked(address: Number, mask: Number) -> NewAddressRange
     requires { AtMost 4294967295 address × AtMost 4294967295 mask }
-    ensures { result ≡ addressFor (maskedRange address mask) }
+    ensures { result ≡ address_for (masked_range address mask) }
 {
     let Number::Is(a) = address else {
         return NewAddressRange::Refused;
@@ -85,7 +85,7 @@ fn masked(address: Number, mask: Number) -> NewAddressRange
 
 // The range from one value to another, of each field.
 fn address_span(low: Number, high: Number) -> NewAddressRange
-    ensures { result ≡ addressFor (spanned addressSize low high) }
+    ensures { result ≡ address_for (spanned address_size low high) }
 {
     let Number::Is(a) = low else {
         return NewAddressRange::Refused;
@@ -97,7 +97,7 @@ fn address_span(low: Number, high: Number) -> NewAddressRange
 }
 
 fn protocol_span(low: Number, high: Number) -> NewProtocolRange
-    ensures { result ≡ protocolFor (spanned protocolSize low high) }
+    ensures { result ≡ protocol_for (spanned protocol_size low high) }
 {
     let Number::Is(a) = low else {
         return NewProtocolRange::Refused;
@@ -109,7 +109,7 @@ fn protocol_span(low: Number, high: Number) -> NewProtocolRange
 }
 
 fn port_span(low: Number, high: Number) -> NewPortRange
-    ensures { result ≡ portFor (spanned portSize low high) }
+    ensures { result ≡ port_for (spanned port_size low high) }
 {
     let Number::Is(a) = low else {
         return NewPortRange::Refused;
@@ -121,7 +121,7 @@ fn port_span(low: Number, high: Number) -> NewPortRange
 }
 
 fn address_field(s: &[u8]) -> NewAddressRange
-    ensures { result ≡ addressFor (addressField s.now) }
+    ensures { result ≡ address_for (address_field s.now) }
 {
     if same(s, b"any") {
         return NewAddressRange::Made(AddressRange::ANY);
@@ -136,7 +136,7 @@ fn address_field(s: &[u8]) -> NewAddressRange
 }
 
 fn protocol_field(s: &[u8]) -> NewProtocolRange
-    ensures { result ≡ protocolFor (protocolField s.now) }
+    ensures { result ≡ protocol_for (protocol_field s.now) }
 {
     if same(s, b"any") {
         return NewProtocolRange::Made(ProtocolRange::ANY);
@@ -149,7 +149,7 @@ fn protocol_field(s: &[u8]) -> NewProtocolRange
 
 // One port, or `opaque`.
 fn port_end(s: &[u8]) -> Number
-    ensures { result ≡ portEnd s.now }
+    ensures { result ≡ port_end s.now }
 {
     if same(s, b"opaque") {
         let absent = ABSENT;
@@ -159,7 +159,7 @@ fn port_end(s: &[u8]) -> Number
 }
 
 fn port_field(s: &[u8]) -> NewPortRange
-    ensures { result ≡ portFor (portField s.now) }
+    ensures { result ≡ port_for (port_field s.now) }
 {
     if same(s, b"any") {
         return NewPortRange::Made(PortRange::ANY);
@@ -171,7 +171,7 @@ fn port_field(s: &[u8]) -> NewPortRange
 }
 
 fn direction_field(s: &[u8]) -> Number
-    ensures { result ≡ directionFor (directionField s.now) }
+    ensures { result ≡ direction_for (direction_field s.now) }
 {
     if same(s, b"out") {
         return Number::Is(1);
@@ -187,7 +187,7 @@ fn direction_field(s: &[u8]) -> Number
 
 fn protect(number: Number) -> Number
     requires { AtMost 255 number }
-    ensures { result ≡ actionFor (protect number) }
+    ensures { result ≡ action_for (protect number) }
 {
     let Number::Is(n) = number else {
         return Number::Bad;
@@ -199,7 +199,7 @@ fn protect(number: Number) -> Number
 }
 
 fn action_field(s: &[u8]) -> Number
-    ensures { result ≡ actionFor (actionField s.now) }
+    ensures { result ≡ action_for (action_field s.now) }
 {
     if same(s, b"bypass") {
         return Number::Is(1);
@@ -223,7 +223,7 @@ fn entry_of(
     local_port: NewPortRange,
     remote_port: NewPortRange,
 ) -> RowText
-    ensures { result ≡ entryFor direction action local remote protocol local_port remote_port }
+    ensures { result ≡ entry_for direction action local remote protocol local_port remote_port }
 {
     let Number::Is(direction) = direction else {
         return RowText::Bad;
@@ -259,7 +259,7 @@ fn entry_of(
 
 // A row's text without its LF.
 pub fn row(s: &[u8]) -> RowText
-    ensures { result ≡ entryOf s.now }
+    ensures { result ≡ entry_of s.now }
 {
     let s1 = after(s, b'\t');
     let s2 = after(s1, b'\t');

@@ -2,42 +2,42 @@
 use Rattle.std.specs.Prelude.{ℕ, ◌*◌, ◌≤◌, ◌≡◌, List, length, take, drop}
 use Rattle.std.proofs.Common.{arith, sym, ◌∙◌, length-append, take_at}
 use Rattle.policy.specs.Policy.{PolicyRow}
-use Rattle.policy.specs.Words.{rowWords, policyRows, words_of}
-use Rattle.policy.specs.WrittenLaws.{FiveEach, words-length, words-rows}
+use Rattle.policy.specs.Words.{row_words, policy_rows, words_of}
+use Rattle.policy.specs.WrittenLaws.{FiveEach, words-length, words_rows}
 use Rattle.policy_text.specs.declared.Edition.{Edition}
 use Rattle.policy_text.specs.declared.File.{File}
 use Rattle.policy_text.specs.declared.File.TheVariants.{Rows, Refused}
-use Rattle.policy_text.specs.Editions.{rules, refused, rows, parsePolicy}
-use Rattle.policy_parse.specs.Parsing.{fileOf, fileRoom}
-use Rattle.policy_parse.specs.FileLaws.{file-is}
-use Rattle.policy_round_trip.specs.AcceptedLaws.{parse-printable}
-use Rattle.policy_round_trip.specs.WordsLaws.{all-five}
+use Rattle.policy_text.specs.Editions.{rules, refused, rows, parse_policy}
+use Rattle.policy_parse.specs.Parsing.{file_of, file_room}
+use Rattle.policy_parse.specs.FileLaws.{file_is}
+use Rattle.policy_round_trip.specs.AcceptedLaws.{parse_printable}
+use Rattle.policy_round_trip.specs.WordsLaws.{all_five}
 
 -- A file that was taken: its edition and rows, at most the limit's, and their words at the start of the room.
 pub record Taken (limit : ℕ) (s : List ℕ) (e : Edition) (n : ℕ) (room' : List ℕ) : Type 0 where
   pub few : n ≤ limit
-  pub words-fit : n * rowWords ≤ length room'
-  pub is : parsePolicy limit s ≡ rows (rules e (policyRows (take (n * rowWords) room')))
+  pub words_fit : n * row_words ≤ length room'
+  pub is : parse_policy limit s ≡ rows (rules e (policy_rows (take (n * row_words) room')))
 
 -- What an answer says of the file: its rows stand in the room, or it is refused so.
 unfoldable pub Told : ℕ → List ℕ → List ℕ → File → Type 0
 Told limit s room' (Rows e n) = Taken limit s e n room'
-Told limit s room' (Refused r) = parsePolicy limit s ≡ refused r
+Told limit s room' (Refused r) = parse_policy limit s ≡ refused r
 
 module _ (limit : ℕ) (s room : List ℕ) where
-  taken-rows : (e : Edition) (n : ℕ) (rs : List PolicyRow) → parsePolicy limit s ≡ rows (rules e rs) → n ≡ length rs
-      → Taken limit s e n (fileRoom room (rows (rules e rs)))
-  taken-rows e n rs p k =
-      let a = parse-printable limit s (rules e rs) p in
-      let f : FiveEach rs = all-five e rs a.0 in
-      let w : length (words_of rs) ≡ n * rowWords = words-length rs f ∙ rw k in
+  taken_rows : (e : Edition) (n : ℕ) (rs : List PolicyRow) → parse_policy limit s ≡ rows (rules e rs) → n ≡ length rs
+      → Taken limit s e n (file_room room (rows (rules e rs)))
+  taken_rows e n rs p k =
+      let a = parse_printable limit s (rules e rs) p in
+      let f : FiveEach rs = all_five e rs a.0 in
+      let w : length (words_of rs) ≡ n * row_words = words-length rs f ∙ rw k in
       record {
         few = omega (arith, a.1);
-        words-fit = simp length-append (omega arith);
-        is = p ∙ rw (take_at (words_of rs) (drop (length rs * rowWords) room) (n * rowWords) w, words-rows rs f);
+        words_fit = simp length-append (omega arith);
+        is = p ∙ rw (take_at (words_of rs) (drop (length rs * row_words) room) (n * row_words) w, words_rows rs f);
       }
 
-  pub told : (f : File) → f ≡ fileOf (parsePolicy limit s) → Told limit s (fileRoom room (parsePolicy limit s)) f
+  pub told : (f : File) → f ≡ file_of (parse_policy limit s) → Told limit s (file_room room (parse_policy limit s)) f
   unfolding Told
-  told (Rows e n) q = let h = file-is (parsePolicy limit s) (Rows e n) q in rw h.1.0 (taken-rows e n h.0 h.1.0 h.1.1)
-  told (Refused r) q = file-is (parsePolicy limit s) (Refused r) q
+  told (Rows e n) q = let h = file_is (parse_policy limit s) (Rows e n) q in rw h.1.0 (taken_rows e n h.0 h.1.0 h.1.1)
+  told (Refused r) q = file_is (parse_policy limit s) (Refused r) q

@@ -2,12 +2,12 @@
 ghost use Rattle.std.specs.Prelude.{◌≡◌, ◌-◌, ◌*◌, ◌≤◌, length, get_or, take, drop};
 ghost use Rattle.std.proofs.lemmas.List.Edits.{sets};
 ghost use Rattle.policy_text.specs.Bytes.{lf, before, after};
-ghost use Rattle.policy.specs.Words.{rowWords, rowLimit};
+ghost use Rattle.policy.specs.Words.{row_words, row_limit};
 ghost use Rattle.policy_text.specs.Format.{lines_of, rows_of};
 ghost use Rattle.policy_text.specs.Edition1.{edition1};
-ghost use Rattle.policy_text.specs.Editions.{parsePolicy};
-ghost use Rattle.policy_fields.specs.Answers.{textWords};
-ghost use Rattle.policy_parse.specs.Parsing.{badOf, written, fileOf, fileRoom, parsedIn, parsedRoom};
+ghost use Rattle.policy_text.specs.Editions.{parse_policy};
+ghost use Rattle.policy_fields.specs.Answers.{text_words};
+ghost use Rattle.policy_parse.specs.Parsing.{bad_of, written, file_of, file_room, parsed_in, parsed_room};
 
 use policy::{LIMIT, POLICY_WORDS, ROW_WORDS, put_row};
 use policy_fields::{RowText, row};
@@ -35,7 +35,7 @@ fn next_line(s: &[u8], at: usize) -> usize
 
 // The number of the first bad row of that many, and 0 if there is none.
 fn first_bad(body: &[u8], count: usize) -> usize
-    ensures { result ≡ badOf (rows_of edition1 1 (lines_of count body.now)) }
+    ensures { result ≡ bad_of (rows_of edition1 1 (lines_of count body.now)) }
 {
     let mut at: usize = 0;
     let mut i: usize = 0;
@@ -51,7 +51,7 @@ fn first_bad(body: &[u8], count: usize) -> usize
 
 // The words of a row at their place; a bad row has none.
 fn put_text(rows: &mut [u64], at: usize, text: RowText)
-    ensures { rows.new ≡ sets rows.old at (textWords text) }
+    ensures { rows.new ≡ sets rows.old at (text_words text) }
 {
     let RowText::Row(row) = text else {
         return;
@@ -61,7 +61,7 @@ fn put_text(rows: &mut [u64], at: usize, text: RowText)
 
 // The words of that many rows, from the start of the room.
 fn put_rows(body: &[u8], count: usize, rows: &mut [u64])
-    requires { count * rowWords ≤ length rows.old }
+    requires { count * row_words ≤ length rows.old }
     ensures { rows.new ≡ written rows.old 0 (lines_of count body.now) }
 {
     let mut at: usize = 0;
@@ -103,7 +103,7 @@ fn last(s: &[u8]) -> u8
 
 // What a file is: its refusal, by the tests in their order, or its edition and the count of its rows.
 fn examine(bytes: &[u8], limit: usize) -> File
-    ensures { result ≡ fileOf (parsePolicy limit bytes.now) }
+    ensures { result ≡ file_of (parse_policy limit bytes.now) }
 {
     if !same(first_nine(bytes), b"policy\t1\n") {
         return File::Refused(Refusal::NotHeader);
@@ -125,8 +125,8 @@ fn examine(bytes: &[u8], limit: usize) -> File
 
 // The rows of a policy file as words, at the start of the lent room; on any refusal, and where the rows do not fit, the room is left alone.
 pub fn parse(bytes: &[u8], limit: usize, rows: &mut [u64]) -> Parsed
-    ensures value { result ≡ parsedIn (length rows.old) (parsePolicy limit bytes.now) }
-    ensures rows_after { rows.new ≡ parsedRoom rows.old (parsePolicy limit bytes.now) }
+    ensures value { result ≡ parsed_in (length rows.old) (parse_policy limit bytes.now) }
+    ensures rows_after { rows.new ≡ parsed_room rows.old (parse_policy limit bytes.now) }
 {
     let file = examine(bytes, limit);
     match file {
@@ -143,8 +143,8 @@ pub fn parse(bytes: &[u8], limit: usize, rows: &mut [u64]) -> Parsed
 
 // The same into a room for the limit's rows, which no policy is too long for.
 pub fn parse_policy(bytes: &[u8], rows: &mut [u64; POLICY_WORDS]) -> File
-    ensures value { result ≡ fileOf (parsePolicy rowLimit bytes.now) }
-    ensures rows_after { rows.new ≡ fileRoom rows.old (parsePolicy rowLimit bytes.now) }
+    ensures value { result ≡ file_of (parse_policy row_limit bytes.now) }
+    ensures rows_after { rows.new ≡ file_room rows.old (parse_policy row_limit bytes.now) }
 {
     let file = examine(bytes, LIMIT);
     match file {

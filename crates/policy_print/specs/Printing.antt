@@ -5,7 +5,7 @@ use Rattle.selectors.specs.declared.Direction.{Direction}
 use Rattle.policy.specs.Policy.{PolicyRow}
 use Rattle.policy_text.specs.declared.Edition.{Edition}
 use Rattle.policy_text.specs.Editions.{format_of}
-use Rattle.policy_text.specs.Print.{policyText, toward}
+use Rattle.policy_text.specs.Print.{policy_text, toward}
 use Rattle.policy_print.specs.declared.Printed.{Printed}
 use Rattle.policy_print.specs.declared.Printed.TheVariants.{Bytes, NoRoom}
 
@@ -16,17 +16,17 @@ pub record Put (room : List ℕ) (at : ℕ) (text : List ℕ) (room' : List ℕ)
 
 -- The file of an edition's rows as rows of one direction.
 abbrev pub printed : Edition → Direction → List PolicyRow → List ℕ
-printed e d rs = policyText (format_of e) (map (toward d) rs)
+printed e d rs = policy_text (format_of e) (map (toward d) rs)
 
 -- What `print` answers with room for that many bytes ('lent room shorter than the printed file' is 31), and what it leaves of the room: 'a print
 -- that succeeds writes its bytes at the start and leaves the rest', a refusal leaves all.
-abbrev pub printedIn : ℕ → List ℕ → Printed
-printedIn room text = cond (leb (length text) room) (Bytes (length text)) NoRoom
+abbrev pub printed_in : ℕ → List ℕ → Printed
+printed_in room text = cond (leb (length text) room) (Bytes (length text)) NoRoom
 
-abbrev pub printedRoom : List ℕ → List ℕ → List ℕ
-printedRoom room text = cond (leb (length text) (length room)) (text ++ drop (length text) room) room
+abbrev pub printed_room : List ℕ → List ℕ → List ℕ
+printed_room room text = cond (leb (length text) (length room)) (text ++ drop (length text) room) room
 
 -- Document 01's number of an answer.
-abbrev pub printedNumber : Printed → ℕ
-printedNumber (Bytes n) = 5
-printedNumber NoRoom = 31
+abbrev pub printed_number : Printed → ℕ
+printed_number (Bytes n) = 5
+printed_number NoRoom = 31

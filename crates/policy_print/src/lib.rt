@@ -1,15 +1,15 @@
 // The printer of policy files (document 01, 'One normal form').
 ghost use Rattle.std.specs.Prelude.{◌≡◌, [], ◌∷◌, map, ◌+◌, ◌≤◌, ◌<◌, ◌^◌, length};
 ghost use Rattle.selectors.specs.Value.{number};
-ghost use Rattle.selectors.specs.Ranges.{addressRange, protocolRange, portRange};
-ghost use Rattle.selectors.specs.Range.{addressSize, protocolSize, portSize};
-ghost use Rattle.selectors.specs.Words.{rangeWords, rangesWords, rangeAt, rangesAt};
-ghost use Rattle.policy.specs.Words.{actionOf, rowWords, row_at, policyRows};
+ghost use Rattle.selectors.specs.Ranges.{address_range, protocol_range, port_range};
+ghost use Rattle.selectors.specs.Range.{address_size, protocol_size, port_size};
+ghost use Rattle.selectors.specs.Words.{range_words, ranges_words, range_at, ranges_at};
+ghost use Rattle.policy.specs.Words.{action_of_word, row_words, row_at, policy_rows};
 ghost use Rattle.policy_text.specs.Bytes.{tab};
-ghost use Rattle.policy_text.specs.Decimals.{digitsOf, decimalText};
-ghost use Rattle.policy_text.specs.Edition1.{dotted, addressText, protocolText, portText, actionText, edition1};
-ghost use Rattle.policy_text.specs.Print.{rangeText, rangesText, directionText, lineText, rowsText, toward};
-ghost use Rattle.policy_print.specs.Printing.{Put, printed, printedIn, printedRoom};
+ghost use Rattle.policy_text.specs.Decimals.{last_digits, decimal_text};
+ghost use Rattle.policy_text.specs.Edition1.{dotted, address_text, protocol_text, port_text, action_text, edition1};
+ghost use Rattle.policy_text.specs.Print.{range_text, ranges_text, direction_text, line_text, rows_text, toward};
+ghost use Rattle.policy_print.specs.Printing.{Put, printed, printed_in, printed_room};
 
 use policy::{Action, ROW_WORDS, RowDirection, action_of};
 use policy_text::Edition;
@@ -58,8 +58,8 @@ fn digit(n: u64) -> u8
 
 // A decimal of at most that many digits.
 fn put_digits(out: &mut [u8], at: usize, most: usize, n: u64) -> usize
-    requires { at + length (digitsOf most n) < 2 ^ 64 }
-    ensures { Put out.old at (digitsOf most n) out.new result }
+    requires { at + length (last_digits most n) < 2 ^ 64 }
+    ensures { Put out.old at (last_digits most n) out.new result }
 {
     if most == 0 {
         return at;
@@ -72,8 +72,8 @@ fn put_digits(out: &mut [u8], at: usize, most: usize, n: u64) -> usize
 }
 
 fn put_decimal(out: &mut [u8], at: usize, n: u64) -> usize
-    requires { at + length (decimalText n) < 2 ^ 64 }
-    ensures { Put out.old at (decimalText n) out.new result }
+    requires { at + length (decimal_text n) < 2 ^ 64 }
+    ensures { Put out.old at (decimal_text n) out.new result }
 {
     put_digits(out, at, 20, n)
 }
@@ -92,8 +92,8 @@ fn put_dotted(out: &mut [u8], at: usize, n: u64) -> usize
 }
 
 fn put_port(out: &mut [u8], at: usize, port: Value) -> usize
-    requires { at + length (portText (number port)) < 2 ^ 64 }
-    ensures { Put out.old at (portText (number port)) out.new result }
+    requires { at + length (port_text (number port)) < 2 ^ 64 }
+    ensures { Put out.old at (port_text (number port)) out.new result }
 {
     if port.same(ABSENT) {
         return put_text(out, at, b"opaque");
@@ -102,8 +102,8 @@ fn put_port(out: &mut [u8], at: usize, port: Value) -> usize
 }
 
 fn put_address_range(out: &mut [u8], at: usize, range: AddressRange) -> usize
-    requires { at + length (rangeText addressSize addressText (addressRange range)) < 2 ^ 64 }
-    ensures { Put out.old at (rangeText addressSize addressText (addressRange range)) out.new result }
+    requires { at + length (range_text address_size address_text (address_range range)) < 2 ^ 64 }
+    ensures { Put out.old at (range_text address_size address_text (address_range range)) out.new result }
 {
     if range.is_any() {
         return put_text(out, at, b"any");
@@ -119,8 +119,8 @@ fn put_address_range(out: &mut [u8], at: usize, range: AddressRange) -> usize
 }
 
 fn put_protocol_range(out: &mut [u8], at: usize, range: ProtocolRange) -> usize
-    requires { at + length (rangeText protocolSize protocolText (protocolRange range)) < 2 ^ 64 }
-    ensures { Put out.old at (rangeText protocolSize protocolText (protocolRange range)) out.new result }
+    requires { at + length (range_text protocol_size protocol_text (protocol_range range)) < 2 ^ 64 }
+    ensures { Put out.old at (range_text protocol_size protocol_text (protocol_range range)) out.new result }
 {
     if range.is_any() {
         return put_text(out, at, b"any");
@@ -136,8 +136,8 @@ fn put_protocol_range(out: &mut [u8], at: usize, range: ProtocolRange) -> usize
 }
 
 fn put_port_range(out: &mut [u8], at: usize, range: PortRange) -> usize
-    requires { at + length (rangeText portSize portText (portRange range)) < 2 ^ 64 }
-    ensures { Put out.old at (rangeText portSize portText (portRange range)) out.new result }
+    requires { at + length (range_text port_size port_text (port_range range)) < 2 ^ 64 }
+    ensures { Put out.old at (range_text port_size port_text (port_range range)) out.new result }
 {
     if range.is_any() {
         return put_text(out, at, b"any");
@@ -153,8 +153,8 @@ fn put_port_range(out: &mut [u8], at: usize, range: PortRange) -> usize
 }
 
 fn put_address_field(out: &mut [u8], at: usize, rows: &[u64], from: usize) -> usize
-    requires { (from + rangeWords ≤ length rows.now) × (at + length (tab ∷ rangeText addressSize addressText (rangeAt rows.now from)) < 2 ^ 64) }
-    ensures { Put out.old at (tab ∷ rangeText addressSize addressText (rangeAt rows.now from)) out.new result }
+    requires { (from + range_words ≤ length rows.now) × (at + length (tab ∷ range_text address_size address_text (range_at rows.now from)) < 2 ^ 64) }
+    ensures { Put out.old at (tab ∷ range_text address_size address_text (range_at rows.now from)) out.new result }
 {
     let low = value_at(rows, from);
     let high = value_at(rows, from + 2);
@@ -163,8 +163,8 @@ fn put_address_field(out: &mut [u8], at: usize, rows: &[u64], from: usize) -> us
 }
 
 fn put_protocol_field(out: &mut [u8], at: usize, rows: &[u64], from: usize) -> usize
-    requires { (from + rangeWords ≤ length rows.now) × (at + length (tab ∷ rangeText protocolSize protocolText (rangeAt rows.now from)) < 2 ^ 64) }
-    ensures { Put out.old at (tab ∷ rangeText protocolSize protocolText (rangeAt rows.now from)) out.new result }
+    requires { (from + range_words ≤ length rows.now) × (at + length (tab ∷ range_text protocol_size protocol_text (range_at rows.now from)) < 2 ^ 64) }
+    ensures { Put out.old at (tab ∷ range_text protocol_size protocol_text (range_at rows.now from)) out.new result }
 {
     let low = value_at(rows, from);
     let high = value_at(rows, from + 2);
@@ -173,8 +173,8 @@ fn put_protocol_field(out: &mut [u8], at: usize, rows: &[u64], from: usize) -> u
 }
 
 fn put_port_field(out: &mut [u8], at: usize, rows: &[u64], from: usize) -> usize
-    requires { (from + rangeWords ≤ length rows.now) × (at + length (tab ∷ rangeText portSize portText (rangeAt rows.now from)) < 2 ^ 64) }
-    ensures { Put out.old at (tab ∷ rangeText portSize portText (rangeAt rows.now from)) out.new result }
+    requires { (from + range_words ≤ length rows.now) × (at + length (tab ∷ range_text port_size port_text (range_at rows.now from)) < 2 ^ 64) }
+    ensures { Put out.old at (tab ∷ range_text port_size port_text (range_at rows.now from)) out.new result }
 {
     let low = value_at(rows, from);
     let high = value_at(rows, from + 2);
@@ -184,8 +184,8 @@ fn put_port_field(out: &mut [u8], at: usize, rows: &[u64], from: usize) -> usize
 
 // The five ranges from a word on, each after a tab.
 fn put_fields(out: &mut [u8], at: usize, rows: &[u64], from: usize) -> usize
-    requires { (from + rangesWords ≤ length rows.now) × (at + length (rangesText edition1 (rangesAt rows.now from)) < 2 ^ 64) }
-    ensures { Put out.old at (rangesText edition1 (rangesAt rows.now from)) out.new result }
+    requires { (from + ranges_words ≤ length rows.now) × (at + length (ranges_text edition1 (ranges_at rows.now from)) < 2 ^ 64) }
+    ensures { Put out.old at (ranges_text edition1 (ranges_at rows.now from)) out.new result }
 {
     let a = put_address_field(out, at, rows, from);
     let b = put_address_field(out, a, rows, from + 4);
@@ -195,8 +195,8 @@ fn put_fields(out: &mut [u8], at: usize, rows: &[u64], from: usize) -> usize
 }
 
 fn put_direction(out: &mut [u8], at: usize, direction: Direction) -> usize
-    requires { at + length (directionText (RowDirection.Only direction)) < 2 ^ 64 }
-    ensures { Put out.old at (directionText (RowDirection.Only direction)) out.new result }
+    requires { at + length (direction_text (RowDirection.Only direction)) < 2 ^ 64 }
+    ensures { Put out.old at (direction_text (RowDirection.Only direction)) out.new result }
 {
     match direction {
         Direction::Out => put_text(out, at, b"out"),
@@ -205,8 +205,8 @@ fn put_direction(out: &mut [u8], at: usize, direction: Direction) -> usize
 }
 
 fn put_action(out: &mut [u8], at: usize, word: u64) -> usize
-    requires { at + length (actionText (actionOf word)) < 2 ^ 64 }
-    ensures { Put out.old at (actionText (actionOf word)) out.new result }
+    requires { at + length (action_text (action_of_word word)) < 2 ^ 64 }
+    ensures { Put out.old at (action_text (action_of_word word)) out.new result }
 {
     let action = action_of(word);
     match action {
@@ -221,8 +221,8 @@ fn put_action(out: &mut [u8], at: usize, word: u64) -> usize
 
 // The row at a word, printed as a row of that direction, with its LF.
 fn put_row(out: &mut [u8], at: usize, rows: &[u64], from: usize, direction: Direction) -> usize
-    requires { (from + rowWords ≤ length rows.now) × (at + length (lineText edition1 (toward direction (row_at rows.now from))) < 2 ^ 64) }
-    ensures { Put out.old at (lineText edition1 (toward direction (row_at rows.now from))) out.new result }
+    requires { (from + row_words ≤ length rows.now) × (at + length (line_text edition1 (toward direction (row_at rows.now from))) < 2 ^ 64) }
+    ensures { Put out.old at (line_text edition1 (toward direction (row_at rows.now from))) out.new result }
 {
     let a = put_direction(out, at, direction);
     let b = put(out, a, b'\t');
@@ -232,8 +232,8 @@ fn put_row(out: &mut [u8], at: usize, rows: &[u64], from: usize, direction: Dire
 }
 
 fn put_rows(out: &mut [u8], at: usize, rows: &[u64], direction: Direction) -> usize
-    requires { at + length (rowsText edition1 (map (toward direction) (policyRows rows.now))) < 2 ^ 64 }
-    ensures { Put out.old at (rowsText edition1 (map (toward direction) (policyRows rows.now))) out.new result }
+    requires { at + length (rows_text edition1 (map (toward direction) (policy_rows rows.now))) < 2 ^ 64 }
+    ensures { Put out.old at (rows_text edition1 (map (toward direction) (policy_rows rows.now))) out.new result }
 {
     let count = rows.len() / ROW_WORDS;
     let mut next = at;
@@ -247,14 +247,14 @@ fn put_rows(out: &mut [u8], at: usize, rows: &[u64], direction: Direction) -> us
 
 // The whole file of edition 1, as far as the room goes, and its length.
 fn put_edition1(out: &mut [u8], rows: &[u64], direction: Direction) -> usize
-    ensures { Put out.old 0 (printed Edition.One direction (policyRows rows.now)) out.new result }
+    ensures { Put out.old 0 (printed Edition.One direction (policy_rows rows.now)) out.new result }
 {
     let next = put_text(out, 0, b"policy\t1\n");
     put_rows(out, next, rows, direction)
 }
 
 fn put_file(out: &mut [u8], edition: Edition, rows: &[u64], direction: Direction) -> usize
-    ensures { Put out.old 0 (printed edition direction (policyRows rows.now)) out.new result }
+    ensures { Put out.old 0 (printed edition direction (policy_rows rows.now)) out.new result }
 {
     match edition {
         Edition::One => put_edition1(out, rows, direction),
@@ -264,8 +264,8 @@ fn put_file(out: &mut [u8], edition: Edition, rows: &[u64], direction: Direction
 // The rows as a policy file of that edition for one direction, at the start of the lent room; a room that is too short is left alone. A first run
 // into a room of one byte measures the file.
 pub fn print(edition: Edition, rows: &[u64], direction: Direction, out: &mut [u8]) -> Printed
-    ensures value { result ≡ printedIn (length out.old) (printed edition direction (policyRows rows.now)) }
-    ensures out_after { out.new ≡ printedRoom out.old (printed edition direction (policyRows rows.now)) }
+    ensures value { result ≡ printed_in (length out.old) (printed edition direction (policy_rows rows.now)) }
+    ensures out_after { out.new ≡ printed_room out.old (printed edition direction (policy_rows rows.now)) }
 {
     let mut scratch = [0u8; 1];
     let n = put_file(&mut scratch, edition, rows, direction);

@@ -1,14 +1,14 @@
 -- What an edition of the policy file is to obey, and a row that it has a text for. Assumes nothing: these are definitions.
 use Rattle.std.specs.Prelude.{ℕ, ◌≡◌, true, List, [], ◌∷◌, ◌++◌}
 use Rattle.std.proofs.Math.Option.{some}
-use Rattle.selectors.specs.Range.{Range, inField}
+use Rattle.selectors.specs.Range.{Range, in_field}
 use Rattle.normal_form.specs.ShapeLaws.{Fits}
 use Rattle.policy.specs.declared.Action.{Action}
 use Rattle.policy.specs.declared.Action.TheVariants.{Discard}
 use Rattle.policy.specs.Policy.{PolicyRow}
 use Rattle.policy_text.specs.Bytes.{tab, lf, count}
 use Rattle.policy_text.specs.Format.{Field, Format, sizes}
-use Rattle.policy_text.specs.Print.{rangeText}
+use Rattle.policy_text.specs.Print.{range_text}
 
 -- A text without tab and LF.
 pub record Clean (s : List ℕ) : Type 0 where
@@ -17,9 +17,9 @@ pub record Clean (s : List ℕ) : Type 0 where
 
 -- A field: what is printed of its ranges is read back, what is read is one of its ranges, and a range's text has no tab and no LF.
 pub record Spelled (g : Field) : Type 0 where
-  pub range_back : (r : Range) → inField g.size r ≡ true → g.readRange (rangeText g.size g.valueText r) ≡ some r
-  pub range-read : (s : List ℕ) (r : Range) → g.readRange s ≡ some r → inField g.size r ≡ true
-  pub range-clean : (r : Range) → Clean (rangeText g.size g.valueText r)
+  pub range_back : (r : Range) → in_field g.size r ≡ true → g.read_range (range_text g.size g.value_text r) ≡ some r
+  pub range_read : (s : List ℕ) (r : Range) → g.read_range s ≡ some r → in_field g.size r ≡ true
+  pub range_clean : (r : Range) → Clean (range_text g.size g.value_text r)
 
 abbrev pub AllSpelled : List Field → Type 0
 AllSpelled [] = Unit
@@ -27,7 +27,7 @@ AllSpelled (g ∷ gs) = Spelled g × AllSpelled gs
 
 -- An action that the edition has a text for.
 abbrev pub Writable : Format → Action → Type 0
-Writable f a = f.readAction (f.actionText a) ≡ some a
+Writable f a = f.read_action (f.action_text a) ≡ some a
 
 -- A header line: its one LF is its last byte.
 pub record HeaderLine (h : List ℕ) : Type 0 where
@@ -37,11 +37,11 @@ pub record HeaderLine (h : List ℕ) : Type 0 where
 
 -- An edition: discard has a text, every action that is read has one, and an action's text has no tab and no LF.
 pub record Lawful (f : Format) : Type 0 where
-  pub header-line : HeaderLine f.header
-  pub fields-spelled : AllSpelled f.fields
-  pub discard-writable : Writable f Discard
-  pub action-read : (s : List ℕ) (a : Action) → f.readAction s ≡ some a → Writable f a
-  pub action-clean : (a : Action) → Clean (f.actionText a)
+  pub header_line : HeaderLine f.header
+  pub fields_spelled : AllSpelled f.fields
+  pub discard_writable : Writable f Discard
+  pub action_read : (s : List ℕ) (a : Action) → f.read_action s ≡ some a → Writable f a
+  pub action_clean : (a : Action) → Clean (f.action_text a)
 
 -- A row that the edition has a text for: a range of each field, and an action that can be written.
 pub record Printable (f : Format) (r : PolicyRow) : Type 0 where

@@ -6,47 +6,47 @@ use Rattle.std.proofs.Math.Bool.{true, false}
 use Rattle.std.proofs.Math.Option.{Option, none, some}
 use Rattle.std.proofs.Math.Dec.{eqb}
 use borrow.Author.Tests.{leb-true, ltb-true, le-leb, lt-ltb, eqb-true, eqb-false}
-use Rattle.selectors.specs.Range.{Range, range, full, inField, sameRange}
-use Rattle.selectors.specs.RangeLaws.{both_true, sameRange-true}
+use Rattle.selectors.specs.Range.{Range, range, full, in_field, same_range}
+use Rattle.selectors.specs.RangeLaws.{both_true, same_range_true}
 use Rattle.policy_text.specs.declared.Number.{Number}
 use Rattle.policy_text.specs.declared.Number.TheVariants.{Is, Bad}
-use Rattle.policy_text.specs.Bytes.{tab, lf, dot, dash, has, before, after, count, sameBytes}
+use Rattle.policy_text.specs.Bytes.{tab, lf, dot, dash, has, before, after, count, are_same_bytes}
 use Rattle.policy_text.specs.Format.{any, made, spanned, ends}
-use Rattle.policy_text.specs.Print.{rangeText}
-use Rattle.policy_text.specs.Edition1.{opaqueWord}
+use Rattle.policy_text.specs.Print.{range_text}
+use Rattle.policy_text.specs.Edition1.{opaque_word}
 use Rattle.policy_text.specs.PrintLaws.{range_length}
-use Rattle.policy_round_trip.specs.CutsLaws.{count-append, differ, has-none, has-seam, before-seam, after-seam}
-use Rattle.policy_round_trip.specs.DecimalsLaws.{isDigit}
+use Rattle.policy_round_trip.specs.CutsLaws.{count-append, differ, has_none, has_seam, before_seam, after_seam}
+use Rattle.policy_round_trip.specs.DecimalsLaws.{is_digit}
 use Rattle.policy_round_trip.specs.Lawful.{Clean}
 
 -- A range of a field: its low end is at most its high end, and that is in the field.
-pub inField-ends : (size : ℕ) (r : Range) → inField size r ≡ true → (r.low ≤ r.high) × (r.high < size)
-unfolding inField
-inField-ends size r h =
+pub in_field-ends : (size : ℕ) (r : Range) → in_field size r ≡ true → (r.low ≤ r.high) × (r.high < size)
+unfolding in_field
+in_field-ends size r h =
     let p = both_true (leb r.low r.high) (ltb r.high size) h in (leb-true _ _ p.0, ltb-true _ _ p.1)
 
 -- Such a range is one of the field.
-pub inField-made : (size : ℕ) (r : Range) → r.low ≤ r.high → r.high < size → inField size r ≡ true
-unfolding inField
-inField-made size r p q = rw (le-leb r.low r.high p, lt-ltb r.high size q)
+pub in_field-made : (size : ℕ) (r : Range) → r.low ≤ r.high → r.high < size → in_field size r ≡ true
+unfolding in_field
+in_field-made size r p q = rw (le-leb r.low r.high p, lt-ltb r.high size q)
 
 -- A byte that no value is printed with: no digit, no dot, and none of `opaque`.
 abbrev pub Outside : ℕ → Type 0
-Outside b = (isDigit b ≡ false) × (eqb dot b ≡ false) × (count b opaqueWord ≡ 0)
+Outside b = (is_digit b ≡ false) × (eqb dot b ≡ false) × (count b opaque_word ≡ 0)
 
 -- Values of a field, whose texts are read as the values, those before the last also as a low end.
 pub record Values (size width : ℕ) (text : ℕ → List ℕ) (low high : List ℕ → Number) : Type 0 where
-  pub low-back : (n : ℕ) → suc n < size → low (text n) ≡ Is n
-  pub high-back : (n : ℕ) → n < size → high (text n) ≡ Is n
+  pub low_back : (n : ℕ) → suc n < size → low (text n) ≡ Is n
+  pub high_back : (n : ℕ) → n < size → high (text n) ≡ Is n
   pub without : (b : ℕ) → Outside b → (n : ℕ) → count b (text n) ≡ 0
   pub short : (n : ℕ) → n < size → length (text n) ≤ width
 
 -- What is printed of a range that is not full.
-abbrev pub spanText : (ℕ → List ℕ) → Range → List ℕ
-spanText text r = cond (eqb r.low r.high) (text r.low) (text r.low ++ (dash ∷ text r.high))
+abbrev pub span_text : (ℕ → List ℕ) → Range → List ℕ
+span_text text r = cond (eqb r.low r.high) (text r.low) (text r.low ++ (dash ∷ text r.high))
 
 module _ {size width : ℕ} {text : ℕ → List ℕ} {low high : List ℕ → Number} (values : Values size width text low high) (r : Range) where
-  pub span-without : (b : ℕ) → Outside b → eqb dash b ≡ false → count b (spanText text r) ≡ 0
+  pub span-without : (b : ℕ) → Outside b → eqb dash b ≡ false → count b (span_text text r) ≡ 0
   unfolding count
   span-without b o d = by (eqb r.low r.high) (values.without b o)
     where
@@ -55,60 +55,60 @@ module _ {size width : ℕ} {text : ℕ → List ℕ} {low high : List ℕ → N
       by false w = simp (count-append, d, w)
 
   -- A byte outside the values that is no dash and not in `any` stands in no range.
-  pub range-without : (b : ℕ) → Outside b → eqb dash b ≡ false → count b any ≡ 0 → count b (rangeText size text r) ≡ 0
-  unfolding rangeText
-  range-without b o d a = by (sameRange r (full size))
+  pub range-without : (b : ℕ) → Outside b → eqb dash b ≡ false → count b any ≡ 0 → count b (range_text size text r) ≡ 0
+  unfolding range_text
+  range-without b o d a = by (same_range r (full size))
     where
-      by : (e : Bool) → count b (cond e any (spanText text r)) ≡ 0
+      by : (e : Bool) → count b (cond e any (span_text text r)) ≡ 0
       by true = a
       by false = span-without b o d
 
-  pub span-not-any : sameBytes (spanText text r) any ≡ false
+  pub span_not_any : are_same_bytes (span_text text r) any ≡ false
   unfolding count
-  span-not-any = differ 121 (spanText text r) any (span-without 121 (refl, refl, refl) refl) (omega arith)
+  span_not_any = differ 121 (span_text text r) any (span-without 121 (refl, refl, refl) refl) (omega arith)
 
   -- A field that reads `any` and the other ranges reads what is printed.
-  pub range_back : (field : List ℕ → Option Range) → field any ≡ some (full size) → field (spanText text r) ≡ some r
-      → field (rangeText size text r) ≡ some r
-  unfolding rangeText
-  range_back field a s = by (sameRange r (full size)) refl
+  pub range_back : (field : List ℕ → Option Range) → field any ≡ some (full size) → field (span_text text r) ≡ some r
+      → field (range_text size text r) ≡ some r
+  unfolding range_text
+  range_back field a s = by (same_range r (full size)) refl
     where
-      by : (e : Bool) → sameRange r (full size) ≡ e → field (cond e any (spanText text r)) ≡ some r
-      by true e = a ∙ ap some (sym (sameRange-true r (full size) e))
+      by : (e : Bool) → same_range r (full size) ≡ e → field (cond e any (span_text text r)) ≡ some r
+      by true e = a ∙ ap some (sym (same_range_true r (full size) e))
       by false e = s
 
-  module _ (h : inField size r ≡ true) where
-    pub ends-back : ends size low high (spanText text r) ≡ some r
+  module _ (h : in_field size r ≡ true) where
+    pub ends_back : ends size low high (span_text text r) ≡ some r
     unfolding count
-    ends-back = let p = inField-ends size r h in by (eqb r.low r.high) refl p.0 p.1 (values.without dash (refl, refl, refl) r.low)
+    ends_back = let p = in_field-ends size r h in by (eqb r.low r.high) refl p.0 p.1 (values.without dash (refl, refl, refl) r.low)
       where
         by : (e : Bool) → eqb r.low r.high ≡ e → r.low ≤ r.high → r.high < size → count dash (text r.low) ≡ 0
             → ends size low high (cond e (text r.low) (text r.low ++ (dash ∷ text r.high))) ≡ some r
         by true e p q w =
-            rw (has-none dash (text r.low) w, values.high-back r.low (omega arith))
+            rw (has_none dash (text r.low) w, values.high_back r.low (omega arith))
             (ap (λ (x : ℕ). made size r.low x) (eqb-true r.low r.high e) ∙ rw h)
         by false e p q w =
             let n : r.low ≡ r.high → ⊥ = eqb-false _ _ e in
             rw (
-              has-seam dash (text r.low) _ w,
-              before-seam dash (text r.low) _ w,
-              after-seam dash (text r.low) _ w,
-              values.low-back r.low (omega arith),
-              values.high-back r.high q,
+              has_seam dash (text r.low) _ w,
+              before_seam dash (text r.low) _ w,
+              after_seam dash (text r.low) _ w,
+              values.low_back r.low (omega arith),
+              values.high_back r.high q,
               h,
             )
 
     -- A range is at most two values with a dash, or `any`.
-    pub range-short : 1 ≤ width → length (rangeText size text r) ≤ width + width + 1
-    range-short l =
-        let p = inField-ends size r h in
+    pub range_short : 1 ≤ width → length (range_text size text r) ≤ width + width + 1
+    range_short l =
+        let p = in_field-ends size r h in
         range_length width size text r l (values.short r.low (omega arith)) (values.short r.high (omega arith))
 
 -- A range's text has no tab and no LF.
-pub range-clean : {size width : ℕ} {text : ℕ → List ℕ} {low high : List ℕ → Number} → Values size width text low high → (r : Range)
-    → Clean (rangeText size text r)
+pub range_clean : {size width : ℕ} {text : ℕ → List ℕ} {low high : List ℕ → Number} → Values size width text low high → (r : Range)
+    → Clean (range_text size text r)
 unfolding count
-range-clean v r =
+range_clean v r =
     record { no-tab = range-without v r tab (refl, refl, refl) refl refl; no-lf = range-without v r lf (refl, refl, refl) refl refl }
 
 -- What is read, if anything, has a property.
@@ -122,23 +122,23 @@ either P false a b p q = q
 
 -- A range from low to high that is read is one of the field.
 abbrev pub In : ℕ → Range → Type 0
-In size r = inField size r ≡ true
+In size r = in_field size r ≡ true
 
 pub made_in : (size low high : ℕ) → Reads (In size) (made size low high)
-made_in size low high = by (inField size (range low high)) refl
+made_in size low high = by (in_field size (range low high)) refl
   where
-    by : (e : Bool) → inField size (range low high) ≡ e → Reads (In size) (cond e (some (range low high)) none)
+    by : (e : Bool) → in_field size (range low high) ≡ e → Reads (In size) (cond e (some (range low high)) none)
     by true e = e
     by false e = tt
 
-spanned-in : (size : ℕ) (a b : Number) → Reads (In size) (spanned size a b)
-spanned-in size Bad b = tt
-spanned-in size (Is m) Bad = tt
-spanned-in size (Is m) (Is n) = made_in size m n
+spanned_in : (size : ℕ) (a b : Number) → Reads (In size) (spanned size a b)
+spanned_in size Bad b = tt
+spanned_in size (Is m) Bad = tt
+spanned_in size (Is m) (Is n) = made_in size m n
 
 pub ends-in : (size : ℕ) (low high : List ℕ → Number) (s : List ℕ) → Reads (In size) (ends size low high s)
-ends-in size low high s = either (In size) (has dash s) _ _ (spanned-in size (low (before dash s)) (high (after dash s))) (spanned-in size (high s) (high s))
+ends-in size low high s = either (In size) (has dash s) _ _ (spanned_in size (low (before dash s)) (high (after dash s))) (spanned_in size (high s) (high s))
 
 -- So is `any`, of a field that has a value.
-pub full-in : (size : ℕ) → 0 < size → In size (full size)
-full-in size h = inField-made size (full size) (omega arith) (omega arith)
+pub full_in : (size : ℕ) → 0 < size → In size (full size)
+full_in size h = in_field-made size (full size) (omega arith) (omega arith)

@@ -5,12 +5,12 @@ use Rattle.normal_form.specs.ShapeLaws.{fits-length}
 use Rattle.policy.specs.Policy.{PolicyRow}
 use Rattle.policy.specs.WrittenLaws.{AllFive, FiveEach}
 use Rattle.policy_text.specs.declared.Edition.{Edition}
-use Rattle.policy_text.specs.Editions.{format_of, editionSizes}
-use Rattle.policy_text.specs.EditionsLaws.{five-fields}
-use Rattle.policy_round_trip.specs.FilesLaws.{AllPrintable, first-printable, rest-printable}
+use Rattle.policy_text.specs.Editions.{format_of, edition_sizes}
+use Rattle.policy_text.specs.EditionsLaws.{five_fields}
+use Rattle.policy_round_trip.specs.FilesLaws.{AllPrintable, first_printable, rest_printable}
 
-pub all-five : (e : Edition) (rs : List PolicyRow) → AllPrintable (format_of e) rs → FiveEach rs
+pub all_five : (e : Edition) (rs : List PolicyRow) → AllPrintable (format_of e) rs → FiveEach rs
 unfolding AllFive
-all-five e [] a = tt
-all-five e (r ∷ rs) a =
-    (fits-length (editionSizes e) r.ranges (first-printable a).fits ∙ five-fields e, all-five e rs (rest-printable a))
+all_five e [] a = tt
+all_five e (r ∷ rs) a =
+    (fits-length (edition_sizes e) r.ranges (first_printable a).fits ∙ five_fields e, all_five e rs (rest_printable a))

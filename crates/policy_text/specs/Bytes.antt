@@ -36,8 +36,8 @@ unfoldable pub count : ℕ → List ℕ → ℕ
 count b [] = zero
 count b (x ∷ s) = cond (eqb x b) (suc (count b s)) (count b s)
 
-unfoldable pub sameBytes : List ℕ → List ℕ → Bool
-sameBytes [] [] = true
-sameBytes [] (y ∷ t) = false
-sameBytes (x ∷ s) [] = false
-sameBytes (x ∷ s) (y ∷ t) = eqb x y && sameBytes s t
+unfoldable pub are_same_bytes : List ℕ → List ℕ → Bool
+are_same_bytes [] [] = true
+are_same_bytes [] (y ∷ t) = false
+are_same_bytes (x ∷ s) [] = false
+are_same_bytes (x ∷ s) (y ∷ t) = eqb x y && are_same_bytes s t

@@ -23,9 +23,9 @@ unfoldable pub decimal : ℕ → List ℕ → Number
 decimal max s = cond (unpadded s && digits s && leb (value 0 s) max) (Is (value 0 s)) Bad
 
 -- The decimal of a number of at most k digits, and of a number below 2^64.
-unfoldable pub digitsOf : ℕ → ℕ → List ℕ
-digitsOf zero n = []
-digitsOf (suc k) n = cond (ltb n 10) ((48 + n) ∷ []) (digitsOf k (n / 10) ++ ((48 + n % 10) ∷ []))
+unfoldable pub last_digits : ℕ → ℕ → List ℕ
+last_digits zero n = []
+last_digits (suc k) n = cond (ltb n 10) ((48 + n) ∷ []) (last_digits k (n / 10) ++ ((48 + n % 10) ∷ []))
 
-unfoldable pub decimalText : ℕ → List ℕ
-decimalText n = digitsOf 20 n
+unfoldable pub decimal_text : ℕ → List ℕ
+decimal_text n = last_digits 20 n

@@ -6,39 +6,39 @@ use Rattle.policy_text.specs.declared.Edition.{Edition}
 use Rattle.policy_text.specs.declared.Edition.TheVariants.{One}
 use Rattle.policy_text.specs.declared.Refusal.{Refusal}
 use Rattle.policy_text.specs.declared.Refusal.TheVariants.{NotHeader, NotEnded, TooMany, BadRow}
-use Rattle.policy_text.specs.Bytes.{lf, count, sameBytes}
-use Rattle.policy_text.specs.Format.{Format, sizes, lines_of, Lines, all_rows, badRow, rows_of}
+use Rattle.policy_text.specs.Bytes.{lf, count, are_same_bytes}
+use Rattle.policy_text.specs.Format.{Format, sizes, lines_of, Lines, all_rows, bad_row, rows_of}
 use Rattle.policy_text.specs.Edition1.{edition1}
 
 abbrev pub format_of : Edition → Format
 format_of One = edition1
 
-abbrev pub editionSizes : Edition → List ℕ
-editionSizes e = sizes (format_of e)
+abbrev pub edition_sizes : Edition → List ℕ
+edition_sizes e = sizes (format_of e)
 
 abbrev pub editions : List Edition
 editions = One ∷ []
 
 -- The edition of a file: that whose header line the file begins with.
 abbrev pub headed : Format → List ℕ → Bool
-headed f s = sameBytes (take (length f.header) s) f.header
+headed f s = are_same_bytes (take (length f.header) s) f.header
 
-unfoldable pub editionAmong : List Edition → List ℕ → Option Edition
-editionAmong [] s = none
-editionAmong (e ∷ es) s = cond (headed (format_of e) s) (some e) (editionAmong es s)
+unfoldable pub edition_among : List Edition → List ℕ → Option Edition
+edition_among [] s = none
+edition_among (e ∷ es) s = cond (headed (format_of e) s) (some e) (edition_among es s)
 
-abbrev pub editionOf : List ℕ → Option Edition
-editionOf s = editionAmong editions s
+abbrev pub edition_of : List ℕ → Option Edition
+edition_of s = edition_among editions s
 
 -- What a file of an edition has after its header line: every LF there ends a row.
 abbrev pub body_of : Edition → List ℕ → List ℕ
 body_of e s = drop (length (format_of e).header) s
 
-abbrev pub rowCount : Edition → List ℕ → ℕ
-rowCount e s = count lf (body_of e s)
+abbrev pub row_count : Edition → List ℕ → ℕ
+row_count e s = count lf (body_of e s)
 
 abbrev pub row_lines : Edition → List ℕ → List (List ℕ)
-row_lines e s = lines_of (rowCount e s) (body_of e s)
+row_lines e s = lines_of (row_count e s) (body_of e s)
 
 -- The rules of a policy: its edition, and its rows.
 pub record Rules : Type 0 where
@@ -53,9 +53,9 @@ pub data Policy : Type 0 where
   refused : Refusal → Policy
   rows : Rules → Policy
 
-abbrev pub policyOf : Edition → Lines → Policy
-policyOf e (all_rows rs) = rows (rules e rs)
-policyOf e (badRow i) = refused (BadRow i)
+abbrev pub policy_of : Edition → Lines → Policy
+policy_of e (all_rows rs) = rows (rules e rs)
+policy_of e (bad_row i) = refused (BadRow i)
 
 -- 'A policy is checked in the order 23, 24, 21, 20': 'first nine bytes aren't the header line', 'last byte isn't LF', more rows than the
 -- limit, 'bad row'.
@@ -63,21 +63,21 @@ abbrev pub checked : ℕ → List ℕ → Option Edition → Policy
 checked limit s none = refused NotHeader
 checked limit s (some e) =
     cond (eqb (get_or s (length s - 1) 0) lf)
-    (cond (leb (rowCount e s) limit) (policyOf e (rows_of (format_of e) 1 (row_lines e s))) (refused TooMany))
+    (cond (leb (row_count e s) limit) (policy_of e (rows_of (format_of e) 1 (row_lines e s))) (refused TooMany))
     (refused NotEnded)
 
-unfoldable pub parsePolicy : ℕ → List ℕ → Policy
-parsePolicy limit s = checked limit s (editionOf s)
+unfoldable pub parse_policy : ℕ → List ℕ → Policy
+parse_policy limit s = checked limit s (edition_of s)
 
 -- Document 01's number of a refusal, and what it carries: a bad row 'its number, first row 1'.
-abbrev pub refusalNumber : Refusal → ℕ
-refusalNumber NotHeader = 23
-refusalNumber NotEnded = 24
-refusalNumber TooMany = 21
-refusalNumber (BadRow i) = 20
+abbrev pub refusal_number : Refusal → ℕ
+refusal_number NotHeader = 23
+refusal_number NotEnded = 24
+refusal_number TooMany = 21
+refusal_number (BadRow i) = 20
 
-abbrev pub refusalCarries : Refusal → ℕ
-refusalCarries NotHeader = 0
-refusalCarries NotEnded = 0
-refusalCarries TooMany = 0
-refusalCarries (BadRow i) = i
+abbrev pub refusal_carries : Refusal → ℕ
+refusal_carries NotHeader = 0
+refusal_carries NotEnded = 0
+refusal_carries TooMany = 0
+refusal_carries (BadRow i) = i

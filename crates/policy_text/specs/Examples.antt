@@ -1,7 +1,7 @@
 -- Worked examples of the format, computed. Assumes nothing.
 use Rattle.std.specs.Prelude.{ℕ, ◌≡◌, refl, List, [], ◌∷◌, ◌++◌}
 use Rattle.std.proofs.Math.Option.{Option, none, some}
-use Rattle.selectors.specs.Range.{Range, range, full, inField, sameRange, addressSize, protocolSize, portSize}
+use Rattle.selectors.specs.Range.{Range, range, full, in_field, same_range, address_size, protocol_size, port_size}
 use Rattle.selectors.specs.declared.Direction.TheVariants.{Out}
 use Rattle.policy.specs.declared.Action.TheVariants.{Bypass, Protect}
 use Rattle.policy.specs.declared.RowDirection.TheVariants.{Only, Both}
@@ -9,101 +9,101 @@ use Rattle.policy.specs.Policy.{PolicyRow}
 use Rattle.policy_text.specs.declared.Edition.TheVariants.{One}
 use Rattle.policy_text.specs.declared.Number.TheVariants.{Is, Bad}
 use Rattle.policy_text.specs.declared.Refusal.TheVariants.{NotHeader, NotEnded, TooMany, BadRow}
-use Rattle.policy_text.specs.Bytes.{lf, index, has, before, after, count, sameBytes}
-use Rattle.policy_text.specs.Decimals.{digits, value, unpadded, decimal, digitsOf, decimalText}
-use Rattle.policy_text.specs.Format.{any, directionField, field, fieldsFrom, row_of, lines_of, rows_of, rangesFrom}
-use Rattle.policy_text.specs.Print.{rangeText, rowText, rowsText, policyText}
-use Rattle.policy_text.specs.Edition1.{header, address, maskBelow, maskedRange, protocolField, portField, addressField, actionField, dotted, addressText, protocolText, portText, actionText, edition1}
-use Rattle.policy_text.specs.Editions.{editionAmong, rows, refused, parsePolicy, rules}
+use Rattle.policy_text.specs.Bytes.{lf, index, has, before, after, count, are_same_bytes}
+use Rattle.policy_text.specs.Decimals.{digits, value, unpadded, decimal, last_digits, decimal_text}
+use Rattle.policy_text.specs.Format.{any, direction_field, field, fields_from, row_of, lines_of, rows_of, ranges_from}
+use Rattle.policy_text.specs.Print.{range_text, row_text, rows_text, policy_text}
+use Rattle.policy_text.specs.Edition1.{header, address, mask_below, masked_range, protocol_field, port_field, address_field, action_field, dotted, address_text, protocol_text, port_text, action_text, edition1}
+use Rattle.policy_text.specs.Editions.{edition_among, rows, refused, parse_policy, rules}
 
 -- Decimals: `0`, `07`, `256` up to 255, and 2^64 up to 65,535.
-zero-read : decimal 255 (48 ∷ []) ≡ Is 0
+zero_read : decimal 255 (48 ∷ []) ≡ Is 0
 unfolding decimal unpadded digits value
-zero-read = refl
+zero_read = refl
 
-padded-refused : decimal 255 (48 ∷ 55 ∷ []) ≡ Bad
+padded_refused : decimal 255 (48 ∷ 55 ∷ []) ≡ Bad
 unfolding decimal unpadded digits value
-padded-refused = refl
+padded_refused = refl
 
-large-refused : decimal 255 (50 ∷ 53 ∷ 54 ∷ []) ≡ Bad
+large_refused : decimal 255 (50 ∷ 53 ∷ 54 ∷ []) ≡ Bad
 unfolding decimal unpadded digits value
-large-refused = refl
+large_refused = refl
 
-long-refused : decimal 65535 (49 ∷ 56 ∷ 52 ∷ 52 ∷ 54 ∷ 55 ∷ 52 ∷ 52 ∷ 48 ∷ 55 ∷ 51 ∷ 55 ∷ 48 ∷ 57 ∷ 53 ∷ 53 ∷ 49 ∷ 54 ∷ 49 ∷ 54 ∷ []) ≡ Bad
+long_refused : decimal 65535 (49 ∷ 56 ∷ 52 ∷ 52 ∷ 54 ∷ 55 ∷ 52 ∷ 52 ∷ 48 ∷ 55 ∷ 51 ∷ 55 ∷ 48 ∷ 57 ∷ 53 ∷ 53 ∷ 49 ∷ 54 ∷ 49 ∷ 54 ∷ []) ≡ Bad
 unfolding decimal unpadded digits value
-long-refused = refl
+long_refused = refl
 
 -- `10.1.0.0/255.255.255.0` is 10.1.0.0 to 10.1.0.255; mask 255.0.255.0 is none; 10.0.0.1/255.0.0.0 is none.
-mask-read : maskedRange (Is 167837696) (Is 4294967040) ≡ some (range 167837696 167837951)
-unfolding maskBelow inField
-mask-read = refl
+mask_read : masked_range (Is 167837696) (Is 4294967040) ≡ some (range 167837696 167837951)
+unfolding mask_below in_field
+mask_read = refl
 
-mask-with-holes : maskedRange (Is 0) (Is 4278255360) ≡ none
-unfolding maskBelow inField
-mask-with-holes = refl
+mask_with_holes : masked_range (Is 0) (Is 4278255360) ≡ none
+unfolding mask_below in_field
+mask_with_holes = refl
 
-address-beyond-mask : maskedRange (Is 167772161) (Is 4278190080) ≡ none
-unfolding maskBelow inField
-address-beyond-mask = refl
+address_beyond_mask : masked_range (Is 167772161) (Is 4278190080) ≡ none
+unfolding mask_below in_field
+address_beyond_mask = refl
 
 -- Ports: `0-65535` is all but absent; `23-opaque` has absent; `9-5` and `opaque-opaque` are none.
-ports-read : portField (48 ∷ 45 ∷ 54 ∷ 53 ∷ 53 ∷ 51 ∷ 53 ∷ []) ≡ some (range 0 65535)
-unfolding portField sameBytes has before after index decimal unpadded digits value inField
-ports-read = refl
+ports_read : port_field (48 ∷ 45 ∷ 54 ∷ 53 ∷ 53 ∷ 51 ∷ 53 ∷ []) ≡ some (range 0 65535)
+unfolding port_field are_same_bytes has before after index decimal unpadded digits value in_field
+ports_read = refl
 
-ports-to-opaque : portField (50 ∷ 51 ∷ 45 ∷ 111 ∷ 112 ∷ 97 ∷ 113 ∷ 117 ∷ 101 ∷ []) ≡ some (range 23 65536)
-unfolding portField sameBytes has before after index decimal unpadded digits value inField
+ports-to-opaque : port_field (50 ∷ 51 ∷ 45 ∷ 111 ∷ 112 ∷ 97 ∷ 113 ∷ 117 ∷ 101 ∷ []) ≡ some (range 23 65536)
+unfolding port_field are_same_bytes has before after index decimal unpadded digits value in_field
 ports-to-opaque = refl
 
-ports-reversed : portField (57 ∷ 45 ∷ 53 ∷ []) ≡ none
-unfolding portField sameBytes has before after index decimal unpadded digits value inField
-ports-reversed = refl
+ports_reversed : port_field (57 ∷ 45 ∷ 53 ∷ []) ≡ none
+unfolding port_field are_same_bytes has before after index decimal unpadded digits value in_field
+ports_reversed = refl
 
-opaque-twice : portField (111 ∷ 112 ∷ 97 ∷ 113 ∷ 117 ∷ 101 ∷ 45 ∷ 111 ∷ 112 ∷ 97 ∷ 113 ∷ 117 ∷ 101 ∷ []) ≡ none
-unfolding portField sameBytes has before after index decimal unpadded digits value inField
-opaque-twice = refl
+opaque_twice : port_field (111 ∷ 112 ∷ 97 ∷ 113 ∷ 117 ∷ 101 ∷ 45 ∷ 111 ∷ 112 ∷ 97 ∷ 113 ∷ 117 ∷ 101 ∷ []) ≡ none
+unfolding port_field are_same_bytes has before after index decimal unpadded digits value in_field
+opaque_twice = refl
 
 -- `0-65535` is printed so, and is not `any`; 0 to absent is; 0 to 255 of protocols is.
-ports-printed : rangeText portSize portText (range 0 65535) ≡ 48 ∷ 45 ∷ 54 ∷ 53 ∷ 53 ∷ 51 ∷ 53 ∷ []
-unfolding rangeText portText protocolText decimalText digitsOf sameRange
+ports-printed : range_text port_size port_text (range 0 65535) ≡ 48 ∷ 45 ∷ 54 ∷ 53 ∷ 53 ∷ 51 ∷ 53 ∷ []
+unfolding range_text port_text protocol_text decimal_text last_digits same_range
 ports-printed = refl
 
-all-ports-printed : rangeText portSize portText (range 0 65536) ≡ any
-unfolding rangeText portText protocolText decimalText digitsOf sameRange
+all-ports-printed : range_text port_size port_text (range 0 65536) ≡ any
+unfolding range_text port_text protocol_text decimal_text last_digits same_range
 all-ports-printed = refl
 
-all-protocols-printed : rangeText protocolSize protocolText (range 0 255) ≡ any
-unfolding rangeText portText protocolText decimalText digitsOf sameRange
+all-protocols-printed : range_text protocol_size protocol_text (range 0 255) ≡ any
+unfolding range_text port_text protocol_text decimal_text last_digits same_range
 all-protocols-printed = refl
 
 -- The order 23, 24, 21, 20: an empty file; one byte that is neither header nor LF; a header and a byte; a bad row beyond the limit; a bad row.
-empty-file : parsePolicy 256 [] ≡ refused NotHeader
-unfolding parsePolicy editionAmong sameBytes count lines_of rows_of before after index row_of rangesFrom field fieldsFrom directionField
-empty-file = refl
+empty_file : parse_policy 256 [] ≡ refused NotHeader
+unfolding parse_policy edition_among are_same_bytes count lines_of rows_of before after index row_of ranges_from field fields_from direction_field
+empty_file = refl
 
-header-first : parsePolicy 256 (120 ∷ []) ≡ refused NotHeader
-unfolding parsePolicy editionAmong sameBytes count lines_of rows_of before after index row_of rangesFrom field fieldsFrom directionField
-header-first = refl
+header_first : parse_policy 256 (120 ∷ []) ≡ refused NotHeader
+unfolding parse_policy edition_among are_same_bytes count lines_of rows_of before after index row_of ranges_from field fields_from direction_field
+header_first = refl
 
-end-next : parsePolicy 256 (header ++ (120 ∷ [])) ≡ refused NotEnded
-unfolding parsePolicy editionAmong sameBytes count lines_of rows_of before after index row_of rangesFrom field fieldsFrom directionField
+end-next : parse_policy 256 (header ++ (120 ∷ [])) ≡ refused NotEnded
+unfolding parse_policy edition_among are_same_bytes count lines_of rows_of before after index row_of ranges_from field fields_from direction_field
 end-next = refl
 
-limit-before-rows : parsePolicy 0 (header ++ (lf ∷ [])) ≡ refused TooMany
-unfolding parsePolicy editionAmong sameBytes count lines_of rows_of before after index row_of rangesFrom field fieldsFrom directionField
-limit-before-rows = refl
+limit-before_rows : parse_policy 0 (header ++ (lf ∷ [])) ≡ refused TooMany
+unfolding parse_policy edition_among are_same_bytes count lines_of rows_of before after index row_of ranges_from field fields_from direction_field
+limit-before_rows = refl
 
-first-row-bad : parsePolicy 1 (header ++ (lf ∷ [])) ≡ refused (BadRow 1)
-unfolding parsePolicy editionAmong sameBytes count lines_of rows_of before after index row_of rangesFrom field fieldsFrom directionField
-first-row-bad = refl
+first_row_bad : parse_policy 1 (header ++ (lf ∷ [])) ≡ refused (BadRow 1)
+unfolding parse_policy edition_among are_same_bytes count lines_of rows_of before after index row_of ranges_from field fields_from direction_field
+first_row_bad = refl
 
-header-alone : parsePolicy 0 header ≡ rows (rules One [])
-unfolding parsePolicy editionAmong sameBytes count lines_of rows_of before after index row_of rangesFrom field fieldsFrom directionField
-header-alone = refl
+header_alone : parse_policy 0 header ≡ rows (rules One [])
+unfolding parse_policy edition_among are_same_bytes count lines_of rows_of before after index row_of ranges_from field fields_from direction_field
+header_alone = refl
 
 -- The header line alone, printed: `policy`, tab, `1`, LF.
-empty-printed : policyText edition1 [] ≡ 112 ∷ 111 ∷ 108 ∷ 105 ∷ 99 ∷ 121 ∷ 9 ∷ 49 ∷ 10 ∷ []
-unfolding policyText rowsText
+empty-printed : policy_text edition1 [] ≡ 112 ∷ 111 ∷ 108 ∷ 105 ∷ 99 ∷ 121 ∷ 9 ∷ 49 ∷ 10 ∷ []
+unfolding policy_text rows_text
 empty-printed = refl
 
 -- A row of the document's example, and a bad row after it.
@@ -111,13 +111,13 @@ example : PolicyRow
 example = record {
   direction = Both;
   action = Bypass;
-  ranges = full addressSize ∷ full addressSize ∷ range 17 17 ∷ range 500 500 ∷ range 500 500 ∷ [];
+  ranges = full address_size ∷ full address_size ∷ range 17 17 ∷ range 500 500 ∷ range 500 500 ∷ [];
 }
 
-example-printed : rowText edition1 example ≡ 98 ∷ 111 ∷ 116 ∷ 104 ∷ 9 ∷ 98 ∷ 121 ∷ 112 ∷ 97 ∷ 115 ∷ 115 ∷ 9 ∷ 97 ∷ 110 ∷ 121 ∷ 9 ∷ 97 ∷ 110 ∷ 121 ∷ 9 ∷ 49 ∷ 55 ∷ 9 ∷ 53 ∷ 48 ∷ 48 ∷ 9 ∷ 53 ∷ 48 ∷ 48 ∷ []
-unfolding example rowText actionText rangeText portText protocolText decimalText digitsOf sameRange
+example-printed : row_text edition1 example ≡ 98 ∷ 111 ∷ 116 ∷ 104 ∷ 9 ∷ 98 ∷ 121 ∷ 112 ∷ 97 ∷ 115 ∷ 115 ∷ 9 ∷ 97 ∷ 110 ∷ 121 ∷ 9 ∷ 97 ∷ 110 ∷ 121 ∷ 9 ∷ 49 ∷ 55 ∷ 9 ∷ 53 ∷ 48 ∷ 48 ∷ 9 ∷ 53 ∷ 48 ∷ 48 ∷ []
+unfolding example row_text action_text range_text port_text protocol_text decimal_text last_digits same_range
 example-printed = refl
 
-second-row-bad : parsePolicy 256 (policyText edition1 (example ∷ []) ++ (lf ∷ [])) ≡ refused (BadRow 2)
-unfolding example parsePolicy editionAmong policyText rowsText rowText actionText rangeText portText protocolText decimalText digitsOf sameRange sameBytes count lines_of rows_of before after has index row_of rangesFrom field fieldsFrom directionField actionField addressField protocolField portField decimal unpadded digits value inField
-second-row-bad = refl
+second-row_bad : parse_policy 256 (policy_text edition1 (example ∷ []) ++ (lf ∷ [])) ≡ refused (BadRow 2)
+unfolding example parse_policy edition_among policy_text rows_text row_text action_text range_text port_text protocol_text decimal_text last_digits same_range are_same_bytes count lines_of rows_of before after has index row_of ranges_from field fields_from direction_field action_field address_field protocol_field port_field decimal unpadded digits value in_field
+second-row_bad = refl

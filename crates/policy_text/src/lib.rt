@@ -1,6 +1,6 @@
 // The format of policy files (document 01; docs/RULES.md, 'The policy file'): texts, cuts at a byte, and decimals; specs/ has the whole format.
 ghost use Rattle.std.specs.Prelude.{◌≡◌, ◌≤◌, ◌<◌, length};
-ghost use Rattle.policy_text.specs.Bytes.{index, before, after, count, sameBytes};
+ghost use Rattle.policy_text.specs.Bytes.{index, before, after, count, are_same_bytes};
 ghost use Rattle.policy_text.specs.Decimals.{unpadded, decimal};
 
 // A number that a text stands for, or none.
@@ -56,7 +56,7 @@ pub fn count(s: &[u8], b: u8) -> usize
 }
 
 pub fn same(s: &[u8], t: &[u8]) -> bool
-    ensures { result ≡ sameBytes s.now t.now }
+    ensures { result ≡ are_same_bytes s.now t.now }
 {
     let mut i: usize = 0;
     while i < s.len() {

@@ -6,9 +6,9 @@ use Rattle.selectors.specs.declared.Direction.{Direction}
 use Rattle.selectors.specs.declared.Value.{Value}
 use Rattle.policy.specs.declared.Action.{Action}
 use Rattle.policy.specs.declared.Action.TheVariants.{Discard}
-use Rattle.policy.specs.Policy.{matches, orderedSearch}
+use Rattle.policy.specs.Policy.{matches, ordered_search}
 use Rattle.policy.specs.declared.Row.{Row}
-use Rattle.policy.specs.Words.{actionOf, row_of}
+use Rattle.policy.specs.Words.{action_of_word, row_of}
 
 -- What stands at an index beyond the last record.
 abbrev zero : Value
@@ -28,24 +28,24 @@ no_row =
 
 module _ (d : Direction) (vs : List ℕ) where
   abbrev pub searched : List Row → Action
-  searched rs = orderedSearch d (map row_of rs) vs
+  searched rs = ordered_search d (map row_of rs) vs
 
   module _ (rs : List Row) (i : ℕ) (passed : searched rs ≡ searched (drop i rs)) where
     abbrev here : Row
     here = get_or rs i no_row
 
     -- The search from the record i on, where there is one.
-    at-record : i < length rs → searched rs ≡ cond (matches d (row_of here) vs) (actionOf here.action) (searched (drop (suc i) rs))
-    unfolding orderedSearch
-    at-record l = passed ∙ ap searched (drop-cons rs i no_row l)
+    at_record : i < length rs → searched rs ≡ cond (matches d (row_of here) vs) (action_of_word here.action) (searched (drop (suc i) rs))
+    unfolding ordered_search
+    at_record l = passed ∙ ap searched (drop-cons rs i no_row l)
 
     -- It is the match, or is passed over, or there is none.
-    pub match-found : i < length rs → matches d (row_of here) vs ≡ true → actionOf here.action ≡ searched rs
-    match-found l e = sym (at-record l ∙ rw e)
+    pub match-found : i < length rs → matches d (row_of here) vs ≡ true → action_of_word here.action ≡ searched rs
+    match-found l e = sym (at_record l ∙ rw e)
 
-    pub match-passed : i < length rs → matches d (row_of here) vs ≡ false → searched rs ≡ searched (drop (i + 1) rs)
-    match-passed l e = at-record l ∙ rw (e, add-one)
+    pub match_passed : i < length rs → matches d (row_of here) vs ≡ false → searched rs ≡ searched (drop (i + 1) rs)
+    match_passed l e = at_record l ∙ rw (e, add-one)
 
-    pub match-ended : length rs ≤ i → Discard ≡ searched rs
-    unfolding orderedSearch
-    match-ended l = sym (passed ∙ ap searched (drop_of_length-le rs l))
+    pub match_ended : length rs ≤ i → Discard ≡ searched rs
+    unfolding ordered_search
+    match_ended l = sym (passed ∙ ap searched (drop_of_length-le rs l))

@@ -3,15 +3,15 @@
 ghost use Rattle.std.specs.Prelude.{◌≡◌, map};
 ghost use Rattle.selectors.specs.Value.{combination};
 ghost use Rattle.selectors.specs.Range.{holds};
-ghost use Rattle.policy.specs.Policy.{matches, orderedSearch};
-ghost use Rattle.policy.specs.Words.{rangesOf, row_of};
+ghost use Rattle.policy.specs.Policy.{matches, ordered_search};
+ghost use Rattle.policy.specs.Words.{ranges_of, row_of};
 
 use policy::{Action, Row};
 use selectors::{Direction, Selectors};
 
 // Whether the five ranges of a row all hold the values.
 fn ranges_hold(row: Row, selectors: Selectors) -> bool
-    ensures { result ≡ holds (rangesOf row) (combination selectors) }
+    ensures { result ≡ holds (ranges_of row) (combination selectors) }
 {
     if !row.local.holds(selectors.local) {
         return false;
@@ -40,7 +40,7 @@ pub fn row_matches(row: Row, direction: Direction, selectors: Selectors) -> bool
 
 // The ordered search: the action of the first match, and discard where there is none.
 pub fn search(rows: &[Row], direction: Direction, selectors: Selectors) -> Action
-    ensures { result ≡ orderedSearch direction (map row_of rows.now) (combination selectors) }
+    ensures { result ≡ ordered_search direction (map row_of rows.now) (combination selectors) }
 {
     let mut i = 0;
     while i < rows.len() {

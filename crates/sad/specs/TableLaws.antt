@@ -11,23 +11,23 @@ use borrow.Author.Tests.{not-true, leb-false}
 use Rattle.std.proofs.Math.ListN.{length, drop, length-set}
 use Rattle.std.proofs.Math.Seq.{paste, sets-eq, length-sets, drop_at}
 use Rattle.selectors.specs.RangeLaws.{both_true}
-use Rattle.selectors.specs.Words.{value_at, wordsOfValue}
+use Rattle.selectors.specs.Words.{value_at, words_of_value}
 use Rattle.selectors.specs.WordsLaws.{value_written}
-use Rattle.selectors.specs.StoresLaws.{paste-before, paste-in, paste-after}
+use Rattle.selectors.specs.StoresLaws.{paste-before, paste_in, paste-after}
 use Rattle.sad.specs.declared.NewPair.{NewPair}
 use Rattle.sad.specs.declared.Place.{Place}
 use Rattle.sad.specs.declared.Place.TheVariants.{At, Nowhere}
 use Rattle.sad.specs.declared.Outcome.{Outcome}
 use Rattle.sad.specs.declared.Outcome.TheVariants.{Done, ReservedSpi, AlreadyLive, TableFull, BadPair, NothingToRemove}
-use Rattle.sad.specs.Pairs.{Pair, placeCount, placeWords, tableWords, ipsec, pair_at, liveAt, pairsFrom, pairs, named, named_at, freeAt, firstFrom, placeOf, freePlace, newPair, pairWords, put_at, addedIf, added, live, reservedSpi, lastNumber, rangesIn, wellFormed, addOutcome, removeOutcome, clearedAt, removed}
-use Rattle.sad.specs.PairsLaws.{first-bound, place-bound, pairs-live, pairs-free, none_free, removed-none, removed-at}
+use Rattle.sad.specs.Pairs.{Pair, place_count, place_words, table_words, ipsec, pair_at, is_live_at, pairs_from, pairs, named, named_at, free_at, first_from, place_of, free_place, new_pair, pair_words, put_at, added_if, added, live, reserved_spi, last_number, ranges_in_fields, well_formed, add_outcome, remove_outcome, cleared_at, removed}
+use Rattle.sad.specs.PairsLaws.{first_bound, place_bound, pairs-live, pairs_free, none_free, removed_none, removed_at}
 
 -- A place is what its words are.
-module _ (ws ws' : List ℕ) (i : ℕ) (same : (k : ℕ) → k < placeWords → get_or ws (i * placeWords + k) 0 ≡ get_or ws' (i * placeWords + k) 0) where
-  first-same : get_or ws (i * placeWords) 0 ≡ get_or ws' (i * placeWords) 0
-  first-same = simp add-zero at (same 0 (lit< tt))
+module _ (ws ws' : List ℕ) (i : ℕ) (same : (k : ℕ) → k < place_words → get_or ws (i * place_words + k) 0 ≡ get_or ws' (i * place_words + k) 0) where
+  first_same : get_or ws (i * place_words) 0 ≡ get_or ws' (i * place_words) 0
+  first_same = simp add-zero at (same 0 (lit< tt))
 
-  value_same : (k : ℕ) → k + 1 < placeWords → value_at ws (i * placeWords + k) ≡ value_at ws' (i * placeWords + k)
+  value_same : (k : ℕ) → k + 1 < place_words → value_at ws (i * place_words + k) ≡ value_at ws' (i * place_words + k)
   unfolding value_at
   value_same k h = rw (add_assoc, same k (omega arith), same (k + 1) h)
 
@@ -36,7 +36,7 @@ module _ (ws ws' : List ℕ) (i : ℕ) (same : (k : ℕ) → k < placeWords → 
   pair_same =
       simp add_assoc
       (rw (
-        first-same,
+        first_same,
         same 1 (lit< tt),
         same 2 (lit< tt),
         same 3 (lit< tt),
@@ -52,164 +52,164 @@ module _ (ws ws' : List ℕ) (i : ℕ) (same : (k : ℕ) → k < placeWords → 
         value_same 22 (lit< tt),
       ))
 
-  live_same : liveAt ws i ≡ liveAt ws' i
-  live_same = rw first-same
+  live_same : is_live_at ws i ≡ is_live_at ws' i
+  live_same = rw first_same
 
 -- A pair is read from the words of its place, and whether it is live from its protocol.
-pair-from : (ws : List ℕ) (i : ℕ) → pair_at ws i ≡ pair_at (drop (i * placeWords) ws) 0
+pair-from : (ws : List ℕ) (i : ℕ) → pair_at ws i ≡ pair_at (drop (i * place_words) ws) 0
 unfolding pair_at value_at
 pair-from ws i = simp (get_or-drop, add_assoc, add-zero)
 
-pair-live : (ws : List ℕ) (i : ℕ) → ipsec (pair_at ws i).protocol ≡ liveAt ws i
+pair-live : (ws : List ℕ) (i : ℕ) → ipsec (pair_at ws i).protocol ≡ is_live_at ws i
 unfolding pair_at
 pair-live ws i = refl
 
 -- The pairs of places whose words are the same, and those of two stretches of places.
-pairs-same : (ws ws' : List ℕ) (i n : ℕ)
-    → ((k : ℕ) → i ≤ k → k < i + n → (x : ℕ) → x < placeWords → get_or ws (k * placeWords + x) 0 ≡ get_or ws' (k * placeWords + x) 0)
-    → pairsFrom ws i n ≡ pairsFrom ws' i n
-unfolding pairsFrom
-pairs-same ws ws' i zero same = refl
-pairs-same ws ws' i (suc n) same =
-    rw (live_same ws ws' i (same i (omega arith) (omega arith)), pair_same ws ws' i (same i (omega arith) (omega arith)), pairs-same ws ws' (suc i) n (λ k p q. same k (omega arith) (omega arith)))
+pairs_same : (ws ws' : List ℕ) (i n : ℕ)
+    → ((k : ℕ) → i ≤ k → k < i + n → (x : ℕ) → x < place_words → get_or ws (k * place_words + x) 0 ≡ get_or ws' (k * place_words + x) 0)
+    → pairs_from ws i n ≡ pairs_from ws' i n
+unfolding pairs_from
+pairs_same ws ws' i zero same = refl
+pairs_same ws ws' i (suc n) same =
+    rw (live_same ws ws' i (same i (omega arith) (omega arith)), pair_same ws ws' i (same i (omega arith) (omega arith)), pairs_same ws ws' (suc i) n (λ k p q. same k (omega arith) (omega arith)))
 
-pairs-split : (ws : List ℕ) (i n m : ℕ) → pairsFrom ws i (n + m) ≡ pairsFrom ws i n ++ pairsFrom ws (i + n) m
-unfolding pairsFrom
-pairs-split ws i zero m = let e : zero + m ≡ m = omega arith in rw (e, add-zero)
-pairs-split ws i (suc n) m =
+pairs_split : (ws : List ℕ) (i n m : ℕ) → pairs_from ws i (n + m) ≡ pairs_from ws i n ++ pairs_from ws (i + n) m
+unfolding pairs_from
+pairs_split ws i zero m = let e : zero + m ≡ m = omega arith in rw (e, add-zero)
+pairs_split ws i (suc n) m =
     let e : suc n + m ≡ suc (n + m) = omega arith in
     let f : suc i + n ≡ i + suc n = omega arith in
-    ap (pairsFrom ws i) e ∙ by (liveAt ws i) refl (pairs-split ws (suc i) n m ∙ rw f)
+    ap (pairs_from ws i) e ∙ by (is_live_at ws i) refl (pairs_split ws (suc i) n m ∙ rw f)
   where
-    by : (l : Bool) → liveAt ws i ≡ l → pairsFrom ws (suc i) (n + m) ≡ pairsFrom ws (suc i) n ++ pairsFrom ws (i + suc n) m
-        → pairsFrom ws i (suc (n + m)) ≡ pairsFrom ws i (suc n) ++ pairsFrom ws (i + suc n) m
+    by : (l : Bool) → is_live_at ws i ≡ l → pairs_from ws (suc i) (n + m) ≡ pairs_from ws (suc i) n ++ pairs_from ws (i + suc n) m
+        → pairs_from ws i (suc (n + m)) ≡ pairs_from ws i (suc n) ++ pairs_from ws (i + suc n) m
     by true l ih = rw (pairs-live ws i (n + m) l, pairs-live ws i n l) (ap (◌∷◌ (pair_at ws i)) ih)
-    by false l ih = rw (pairs-free ws i (n + m) l, pairs-free ws i n l) ih
+    by false l ih = rw (pairs_free ws i (n + m) l, pairs_free ws i n l) ih
 
 -- The pairs before a place and those after it.
-abbrev pub pairsBefore : List ℕ → ℕ → List Pair
-pairsBefore ws j = pairsFrom ws 0 j
+abbrev pub pairs_before : List ℕ → ℕ → List Pair
+pairs_before ws j = pairs_from ws 0 j
 
-abbrev pub pairsAfter : List ℕ → ℕ → List Pair
-pairsAfter ws j = pairsFrom ws (suc j) (placeCount - suc j)
+abbrev pub pairs_after : List ℕ → ℕ → List Pair
+pairs_after ws j = pairs_from ws (suc j) (place_count - suc j)
 
-module _ (ws : List ℕ) (j : ℕ) (h : j < placeCount) where
-  pairs-at : pairs ws ≡ pairsBefore ws j ++ pairsFrom ws j (suc (placeCount - suc j))
-  pairs-at =
-      let e : placeCount ≡ j + suc (placeCount - suc j) = omega arith in
+module _ (ws : List ℕ) (j : ℕ) (h : j < place_count) where
+  pairs_at : pairs ws ≡ pairs_before ws j ++ pairs_from ws j (suc (place_count - suc j))
+  pairs_at =
+      let e : place_count ≡ j + suc (place_count - suc j) = omega arith in
       let z : 0 + j ≡ j = omega arith in
-      ap (pairsFrom ws 0) e ∙ pairs-split ws 0 j (suc (placeCount - suc j)) ∙ rw z
+      ap (pairs_from ws 0) e ∙ pairs_split ws 0 j (suc (place_count - suc j)) ∙ rw z
 
-  pairs-with : liveAt ws j ≡ true → pairs ws ≡ pairsBefore ws j ++ pair_at ws j ∷ pairsAfter ws j
-  pairs-with l = pairs-at ∙ rw (pairs-live ws j (placeCount - suc j) l)
+  pairs_with : is_live_at ws j ≡ true → pairs ws ≡ pairs_before ws j ++ pair_at ws j ∷ pairs_after ws j
+  pairs_with l = pairs_at ∙ rw (pairs-live ws j (place_count - suc j) l)
 
-  pairs-without : liveAt ws j ≡ false → pairs ws ≡ pairsBefore ws j ++ pairsAfter ws j
-  pairs-without l = pairs-at ∙ rw (pairs-free ws j (placeCount - suc j) l)
+  pairs-without : is_live_at ws j ≡ false → pairs ws ≡ pairs_before ws j ++ pairs_after ws j
+  pairs-without l = pairs_at ∙ rw (pairs_free ws j (place_count - suc j) l)
 
 -- The first place for which a test holds passes it.
-first-true : (test : ℕ → Bool) (i n j : ℕ) → firstFrom test i n ≡ At j → test j ≡ true
-unfolding firstFrom
-first-true test i zero j e = let z : ◌≡◌ {A = ℕ} 0 1 = cc in absurd (omega arith)
-first-true test i (suc n) j e = by (test i) refl (first-true test (suc i) n j)
+first_true : (test : ℕ → Bool) (i n j : ℕ) → first_from test i n ≡ At j → test j ≡ true
+unfolding first_from
+first_true test i zero j e = let z : ◌≡◌ {A = ℕ} 0 1 = cc in absurd (omega arith)
+first_true test i (suc n) j e = by (test i) refl (first_true test (suc i) n j)
   where
-    by : (b : Bool) → test i ≡ b → (firstFrom test (suc i) n ≡ At j → test j ≡ true) → test j ≡ true
+    by : (b : Bool) → test i ≡ b → (first_from test (suc i) n ≡ At j → test j ≡ true) → test j ≡ true
     by true h ih = let k : At i ≡ At j = rw h at e in let l : i ≡ j = cc in rw (← l) h
     by false h ih = ih (rw h at e)
 
 -- Words that are the same but for those of one place: the pairs before it and after it are the same.
-module _ (ws ws' : List ℕ) (j : ℕ) (h : j < placeCount)
-    (same : (k : ℕ) → k ≢ j → (x : ℕ) → x < placeWords → get_or ws' (k * placeWords + x) 0 ≡ get_or ws (k * placeWords + x) 0) where
-  same-before : pairsBefore ws' j ≡ pairsBefore ws j
-  same-before = pairs-same ws' ws 0 j (λ k p q. same k (λ e. omega arith))
+module _ (ws ws' : List ℕ) (j : ℕ) (h : j < place_count)
+    (same : (k : ℕ) → k ≢ j → (x : ℕ) → x < place_words → get_or ws' (k * place_words + x) 0 ≡ get_or ws (k * place_words + x) 0) where
+  same-before : pairs_before ws' j ≡ pairs_before ws j
+  same-before = pairs_same ws' ws 0 j (λ k p q. same k (λ e. omega arith))
 
-  same_after : pairsAfter ws' j ≡ pairsAfter ws j
-  same_after = pairs-same ws' ws (suc j) (placeCount - suc j) (λ k p q. same k (λ e. omega arith))
+  same_after : pairs_after ws' j ≡ pairs_after ws j
+  same_after = pairs_same ws' ws (suc j) (place_count - suc j) (λ k p q. same k (λ e. omega arith))
 
 -- A removal takes the pair at its place out, and leaves the others as they are.
-module _ (ws : List ℕ) (protocol spi j : ℕ) (e : placeOf ws protocol spi ≡ At j) (size : length ws ≡ tableWords) where
-  place_in : j < placeCount
-  place_in = place-bound ws protocol spi j e
+module _ (ws : List ℕ) (protocol spi j : ℕ) (e : place_of ws protocol spi ≡ At j) (size : length ws ≡ table_words) where
+  place_in : j < place_count
+  place_in = place_bound ws protocol spi j e
 
-  is-named : (liveAt ws j ≡ true) × (named protocol spi (pair_at ws j) ≡ true)
-  is-named = both_true (liveAt ws j) (named protocol spi (pair_at ws j)) (first-true (named_at ws protocol spi) 0 placeCount j e)
+  is-named : (is_live_at ws j ≡ true) × (named protocol spi (pair_at ws j) ≡ true)
+  is-named = both_true (is_live_at ws j) (named protocol spi (pair_at ws j)) (first_true (named_at ws protocol spi) 0 place_count j e)
 
-  pub pairs-removing : (pairs ws ≡ pairsBefore ws j ++ pair_at ws j ∷ pairsAfter ws j) × (named protocol spi (pair_at ws j) ≡ true)
-  pairs-removing = (pairs-with ws j place_in is-named.0, is-named.1)
+  pub pairs_removing : (pairs ws ≡ pairs_before ws j ++ pair_at ws j ∷ pairs_after ws j) × (named protocol spi (pair_at ws j) ≡ true)
+  pairs_removing = (pairs_with ws j place_in is-named.0, is-named.1)
 
-  cleared : liveAt (set ws (j * placeWords) 0) j ≡ false
-  cleared = let z : get_or (set ws (j * placeWords) 0) (j * placeWords) 0 ≡ 0 = get_or-set_same ws (j * placeWords) 0 0 (omega (arith, place_in)) in rw z
+  cleared : is_live_at (set ws (j * place_words) 0) j ≡ false
+  cleared = let z : get_or (set ws (j * place_words) 0) (j * place_words) 0 ≡ 0 = get_or-set_same ws (j * place_words) 0 0 (omega (arith, place_in)) in rw z
 
-  other : (k : ℕ) → k ≢ j → (x : ℕ) → x < placeWords → get_or (set ws (j * placeWords) 0) (k * placeWords + x) 0 ≡ get_or ws (k * placeWords + x) 0
-  other k n x l = get_or-set_other ws (j * placeWords) (k * placeWords + x) 0 0 (λ q. n (omega arith))
+  other : (k : ℕ) → k ≢ j → (x : ℕ) → x < place_words → get_or (set ws (j * place_words) 0) (k * place_words + x) 0 ≡ get_or ws (k * place_words + x) 0
+  other k n x l = get_or-set_other ws (j * place_words) (k * place_words + x) 0 0 (λ q. n (omega arith))
 
-  pub pairs-removed : pairs (removed ws protocol spi) ≡ pairsBefore ws j ++ pairsAfter ws j
+  pub pairs-removed : pairs (removed ws protocol spi) ≡ pairs_before ws j ++ pairs_after ws j
   unfolding removed
   pairs-removed =
       rw e
-      (pairs-without (set ws (j * placeWords) 0) j place_in cleared
-      ∙ rw (same-before ws (set ws (j * placeWords) 0) j place_in other, same_after ws (set ws (j * placeWords) 0) j place_in other))
+      (pairs-without (set ws (j * place_words) 0) j place_in cleared
+      ∙ rw (same-before ws (set ws (j * place_words) 0) j place_in other, same_after ws (set ws (j * place_words) 0) j place_in other))
 
-lt-other : (k j : ℕ) → (k < j → ⊥) → k ≢ j → j < k
-lt-other k j h n = by (dec_lt j k)
+lt_other : (k j : ℕ) → (k < j → ⊥) → k ≢ j → j < k
+lt_other k j h n = by (dec_lt j k)
   where
     by : Dec (j < k) → j < k
     by (yes q) = q
     by (no q) = absurd (n (omega arith))
 
 -- An added pair stands among the others, which are as they were.
-module _ (ws : List ℕ) (p : NewPair) (j : ℕ) (e : freePlace ws ≡ At j) (size : length ws ≡ tableWords) where
-  free_in : j < placeCount
-  free_in = omega (arith, first-bound (freeAt ws) 0 placeCount j e)
+module _ (ws : List ℕ) (p : NewPair) (j : ℕ) (e : free_place ws ≡ At j) (size : length ws ≡ table_words) where
+  free_in : j < place_count
+  free_in = omega (arith, first_bound (free_at ws) 0 place_count j e)
 
-  room : j * placeWords + placeWords ≤ length ws
+  room : j * place_words + place_words ≤ length ws
   room = omega (arith, free_in)
 
-  words-all : placeWords ≤ length (pairWords p)
-  unfolding pairWords wordsOfValue
-  words-all = lit≤ tt
+  words_all : place_words ≤ length (pair_words p)
+  unfolding pair_words words_of_value
+  words_all = lit≤ tt
 
   -- The words of the place are those of the pair.
-  is-put : put_at ws p (At j) ≡ paste ws (j * placeWords) (pairWords p) placeWords
-  unfolding pairWords wordsOfValue
-  is-put = sets-eq (pairWords p) ws (j * placeWords) room
+  is-put : put_at ws p (At j) ≡ paste ws (j * place_words) (pair_words p) place_words
+  unfolding pair_words words_of_value
+  is-put = sets-eq (pair_words p) ws (j * place_words) room
 
-  pub pairs-adding : pairs ws ≡ pairsBefore ws j ++ pairsAfter ws j
-  pairs-adding = pairs-without ws j free_in (not-true (liveAt ws j) (first-true (freeAt ws) 0 placeCount j e))
+  pub pairs_adding : pairs ws ≡ pairs_before ws j ++ pairs_after ws j
+  pairs_adding = pairs-without ws j free_in (not-true (is_live_at ws j) (first_true (free_at ws) 0 place_count j e))
 
-  new-words : drop (j * placeWords) (put_at ws p (At j)) ≡ pairWords p ++ drop (j * placeWords + placeWords) ws
-  unfolding pairWords wordsOfValue
+  new-words : drop (j * place_words) (put_at ws p (At j)) ≡ pair_words p ++ drop (j * place_words + place_words) ws
+  unfolding pair_words words_of_value
   new-words =
-      ap (drop (j * placeWords)) (is-put ∙ append_assoc (take (j * placeWords) ws) (pairWords p) (drop (j * placeWords + placeWords) ws))
-      ∙ drop_at (take (j * placeWords) ws) (pairWords p ++ drop (j * placeWords + placeWords) ws) (j * placeWords) (length-take-le (j * placeWords) ws (omega (arith, room)))
+      ap (drop (j * place_words)) (is-put ∙ append_assoc (take (j * place_words) ws) (pair_words p) (drop (j * place_words + place_words) ws))
+      ∙ drop_at (take (j * place_words) ws) (pair_words p ++ drop (j * place_words + place_words) ws) (j * place_words) (length-take-le (j * place_words) ws (omega (arith, room)))
 
-  new-pair : (rest : List ℕ) → pair_at (pairWords p ++ rest) 0 ≡ newPair p
-  unfolding pair_at pairWords value_at wordsOfValue
+  new-pair : (rest : List ℕ) → pair_at (pair_words p ++ rest) 0 ≡ new_pair p
+  unfolding pair_at pair_words value_at words_of_value
   new-pair rest = simp value_written
 
-  is-new : pair_at (put_at ws p (At j)) j ≡ newPair p
-  is-new = pair-from (put_at ws p (At j)) j ∙ ap (λ (l : List ℕ). pair_at l 0) new-words ∙ new-pair (drop (j * placeWords + placeWords) ws)
+  is_new : pair_at (put_at ws p (At j)) j ≡ new_pair p
+  is_new = pair-from (put_at ws p (At j)) j ∙ ap (λ (l : List ℕ). pair_at l 0) new-words ∙ new-pair (drop (j * place_words + place_words) ws)
 
-  kept : (k : ℕ) → k ≢ j → (x : ℕ) → x < placeWords → get_or (put_at ws p (At j)) (k * placeWords + x) 0 ≡ get_or ws (k * placeWords + x) 0
+  kept : (k : ℕ) → k ≢ j → (x : ℕ) → x < place_words → get_or (put_at ws p (At j)) (k * place_words + x) 0 ≡ get_or ws (k * place_words + x) 0
   kept k n x l = by (dec_lt k j)
     where
-      by : Dec (k < j) → get_or (put_at ws p (At j)) (k * placeWords + x) 0 ≡ get_or ws (k * placeWords + x) 0
-      by (yes q) = rw is-put (paste-before ws (pairWords p) (j * placeWords) placeWords room words-all (k * placeWords + x) (omega arith))
+      by : Dec (k < j) → get_or (put_at ws p (At j)) (k * place_words + x) 0 ≡ get_or ws (k * place_words + x) 0
+      by (yes q) = rw is-put (paste-before ws (pair_words p) (j * place_words) place_words room words_all (k * place_words + x) (omega arith))
       by (no q) =
-          let o : j < k = lt-other k j q n in
-          rw is-put (paste-after ws (pairWords p) (j * placeWords) placeWords room words-all (k * placeWords + x) (omega arith))
+          let o : j < k = lt_other k j q n in
+          rw is-put (paste-after ws (pair_words p) (j * place_words) place_words room words_all (k * place_words + x) (omega arith))
 
-  pub pairs-added : ipsec p.protocol ≡ true → pairs (put_at ws p (At j)) ≡ pairsBefore ws j ++ newPair p ∷ pairsAfter ws j
+  pub pairs-added : ipsec p.protocol ≡ true → pairs (put_at ws p (At j)) ≡ pairs_before ws j ++ new_pair p ∷ pairs_after ws j
   pairs-added l =
-      pairs-with (put_at ws p (At j)) j free_in (sym (pair-live (put_at ws p (At j)) j) ∙ rw is-new l)
-      ∙ rw (same-before ws (put_at ws p (At j)) j free_in kept, same_after ws (put_at ws p (At j)) j free_in kept, is-new)
+      pairs_with (put_at ws p (At j)) j free_in (sym (pair-live (put_at ws p (At j)) j) ∙ rw is_new l)
+      ∙ rw (same-before ws (put_at ws p (At j)) j free_in kept, same_after ws (put_at ws p (At j)) j free_in kept, is_new)
 
 -- The table after any addition: a refusal changes nothing, and where the pair is taken it stands among the others.
 module _ (ws : List ℕ) (p : NewPair) where
-  pub refused-kept : (addOutcome (pairs ws) p ≡ Done → ⊥) → added ws p ≡ ws
+  pub refused_kept : (add_outcome (pairs ws) p ≡ Done → ⊥) → added ws p ≡ ws
   unfolding added
-  refused-kept n = by (addOutcome (pairs ws) p) n
+  refused_kept n = by (add_outcome (pairs ws) p) n
     where
-      by : (o : Outcome) → (o ≡ Done → ⊥) → addedIf ws p o ≡ ws
+      by : (o : Outcome) → (o ≡ Done → ⊥) → added_if ws p o ≡ ws
       by Done n = absurd (n refl)
       by ReservedSpi n = refl
       by AlreadyLive n = refl
@@ -217,43 +217,43 @@ module _ (ws : List ℕ) (p : NewPair) where
       by BadPair n = refl
       by NothingToRemove n = refl
 
-  done-free : addOutcome (pairs ws) p ≡ Done → (ipsec p.protocol ≡ true) × (leb placeCount (length (pairs ws)) ≡ false)
-  unfolding addOutcome wellFormed
-  done-free e =
-      by (reservedSpi p) (wellFormed p) refl (live p.protocol p.spi_in (pairs ws)) (leb placeCount (length (pairs ws))) refl e
+  done_free : add_outcome (pairs ws) p ≡ Done → (ipsec p.protocol ≡ true) × (leb place_count (length (pairs ws)) ≡ false)
+  unfolding add_outcome well_formed
+  done_free e =
+      by (reserved_spi p) (well_formed p) refl (live p.protocol p.spi_in (pairs ws)) (leb place_count (length (pairs ws))) refl e
     where
-      by : (r w : Bool) → wellFormed p ≡ w → (l f : Bool) → leb placeCount (length (pairs ws)) ≡ f
+      by : (r w : Bool) → well_formed p ≡ w → (l f : Bool) → leb place_count (length (pairs ws)) ≡ f
           → cond r ReservedSpi (cond (not w) BadPair (cond l AlreadyLive (cond f TableFull Done))) ≡ Done
-          → (ipsec p.protocol ≡ true) × (leb placeCount (length (pairs ws)) ≡ false)
+          → (ipsec p.protocol ≡ true) × (leb place_count (length (pairs ws)) ≡ false)
       by true w v l f g e = let z : ◌≡◌ {A = ℕ} 0 1 = cc in absurd (omega arith)
       by false false v l f g e = let z : ◌≡◌ {A = ℕ} 0 1 = cc in absurd (omega arith)
       by false true v true f g e = let z : ◌≡◌ {A = ℕ} 0 1 = cc in absurd (omega arith)
       by false true v false true g e = let z : ◌≡◌ {A = ℕ} 0 1 = cc in absurd (omega arith)
       by false true v false false g e =
-          let a = (both_true _ (rangesIn p.ranges) v).0 in
-          ((both_true (ipsec p.protocol) _ (both_true _ (leb p.number lastNumber) a).0).0, g)
+          let a = (both_true _ (ranges_in_fields p.ranges) v).0 in
+          ((both_true (ipsec p.protocol) _ (both_true _ (leb p.number last_number) a).0).0, g)
 
-  module _ (size : length ws ≡ tableWords) where
-    pub pairs-after-add : addOutcome (pairs ws) p ≡ Done
-        → (j : ℕ) × (pairs ws ≡ pairsBefore ws j ++ pairsAfter ws j) × (pairs (added ws p) ≡ pairsBefore ws j ++ newPair p ∷ pairsAfter ws j)
+  module _ (size : length ws ≡ table_words) where
+    pub pairs_after_add : add_outcome (pairs ws) p ≡ Done
+        → (j : ℕ) × (pairs ws ≡ pairs_before ws j ++ pairs_after ws j) × (pairs (added ws p) ≡ pairs_before ws j ++ new_pair p ∷ pairs_after ws j)
     unfolding added
-    pairs-after-add e = by (freePlace ws) refl
+    pairs_after_add e = by (free_place ws) refl
       where
-        by : (f : Place) → freePlace ws ≡ f
-            → (j : ℕ) × (pairs ws ≡ pairsBefore ws j ++ pairsAfter ws j) × (pairs (addedIf ws p (addOutcome (pairs ws) p)) ≡ pairsBefore ws j ++ newPair p ∷ pairsAfter ws j)
-        by (At j) f = (j, pairs-adding ws p j f size, rw (e, f) (pairs-added ws p j f size (done-free e).0))
-        by Nowhere f = absurd (omega (arith, leb-false placeCount (length (pairs ws)) (done-free e).1, none_free ws 0 placeCount f))
+        by : (f : Place) → free_place ws ≡ f
+            → (j : ℕ) × (pairs ws ≡ pairs_before ws j ++ pairs_after ws j) × (pairs (added_if ws p (add_outcome (pairs ws) p)) ≡ pairs_before ws j ++ new_pair p ∷ pairs_after ws j)
+        by (At j) f = (j, pairs_adding ws p j f size, rw (e, f) (pairs-added ws p j f size (done_free e).0))
+        by Nowhere f = absurd (omega (arith, leb-false place_count (length (pairs ws)) (done_free e).1, none_free ws 0 place_count f))
 
-    pub size-after-add : length (added ws p) ≡ tableWords
+    pub size-after_add : length (added ws p) ≡ table_words
     unfolding added
-    size-after-add = by (addOutcome (pairs ws) p)
+    size-after_add = by (add_outcome (pairs ws) p)
       where
-        put : (f : Place) → freePlace ws ≡ f → length (put_at ws p f) ≡ tableWords
-        put (At j) f = length-sets ws (j * placeWords) (pairWords p) ∙ size
+        put : (f : Place) → free_place ws ≡ f → length (put_at ws p f) ≡ table_words
+        put (At j) f = length-sets ws (j * place_words) (pair_words p) ∙ size
         put Nowhere f = size
 
-        by : (o : Outcome) → length (addedIf ws p o) ≡ tableWords
-        by Done = put (freePlace ws) refl
+        by : (o : Outcome) → length (added_if ws p o) ≡ table_words
+        by Done = put (free_place ws) refl
         by ReservedSpi = size
         by AlreadyLive = size
         by TableFull = size
@@ -261,36 +261,36 @@ module _ (ws : List ℕ) (p : NewPair) where
         by NothingToRemove = size
 
 -- And after any removal.
-module _ (ws : List ℕ) (protocol spi : ℕ) (size : length ws ≡ tableWords) where
-  pub pairs-after-remove : removeOutcome (pairs ws) protocol spi ≡ Done
-      → (j : ℕ) × (named protocol spi (pair_at ws j) ≡ true) × (pairs ws ≡ pairsBefore ws j ++ pair_at ws j ∷ pairsAfter ws j)
-      × (pairs (removed ws protocol spi) ≡ pairsBefore ws j ++ pairsAfter ws j)
-  unfolding removeOutcome
-  pairs-after-remove e = by (placeOf ws protocol spi) refl
+module _ (ws : List ℕ) (protocol spi : ℕ) (size : length ws ≡ table_words) where
+  pub pairs_after_remove : remove_outcome (pairs ws) protocol spi ≡ Done
+      → (j : ℕ) × (named protocol spi (pair_at ws j) ≡ true) × (pairs ws ≡ pairs_before ws j ++ pair_at ws j ∷ pairs_after ws j)
+      × (pairs (removed ws protocol spi) ≡ pairs_before ws j ++ pairs_after ws j)
+  unfolding remove_outcome
+  pairs_after_remove e = by (place_of ws protocol spi) refl
     where
-      by : (f : Place) → placeOf ws protocol spi ≡ f
-          → (j : ℕ) × (named protocol spi (pair_at ws j) ≡ true) × (pairs ws ≡ pairsBefore ws j ++ pair_at ws j ∷ pairsAfter ws j)
-          × (pairs (removed ws protocol spi) ≡ pairsBefore ws j ++ pairsAfter ws j)
-      by (At j) f = (j, (pairs-removing ws protocol spi j f size).1, (pairs-removing ws protocol spi j f size).0, pairs-removed ws protocol spi j f size)
+      by : (f : Place) → place_of ws protocol spi ≡ f
+          → (j : ℕ) × (named protocol spi (pair_at ws j) ≡ true) × (pairs ws ≡ pairs_before ws j ++ pair_at ws j ∷ pairs_after ws j)
+          × (pairs (removed ws protocol spi) ≡ pairs_before ws j ++ pairs_after ws j)
+      by (At j) f = (j, (pairs_removing ws protocol spi j f size).1, (pairs_removing ws protocol spi j f size).0, pairs-removed ws protocol spi j f size)
       by Nowhere f =
-          let n : NothingToRemove ≡ removeOutcome (pairs ws) protocol spi = (removed-none ws protocol spi f).0 in
+          let n : NothingToRemove ≡ remove_outcome (pairs ws) protocol spi = (removed_none ws protocol spi f).0 in
           let z : ◌≡◌ {A = ℕ} 0 1 = cc in
           absurd (omega arith)
 
-  pub nothing-kept : removeOutcome (pairs ws) protocol spi ≡ NothingToRemove → removed ws protocol spi ≡ ws
-  nothing-kept e = by (placeOf ws protocol spi) refl
+  pub nothing_kept : remove_outcome (pairs ws) protocol spi ≡ NothingToRemove → removed ws protocol spi ≡ ws
+  nothing_kept e = by (place_of ws protocol spi) refl
     where
-      by : (f : Place) → placeOf ws protocol spi ≡ f → removed ws protocol spi ≡ ws
+      by : (f : Place) → place_of ws protocol spi ≡ f → removed ws protocol spi ≡ ws
       by (At j) f =
-          let n : Done ≡ removeOutcome (pairs ws) protocol spi = (removed-at ws protocol spi j f).0 in
+          let n : Done ≡ remove_outcome (pairs ws) protocol spi = (removed_at ws protocol spi j f).0 in
           let z : ◌≡◌ {A = ℕ} 0 1 = cc in
           absurd (omega arith)
-      by Nowhere f = sym (removed-none ws protocol spi f).1
+      by Nowhere f = sym (removed_none ws protocol spi f).1
 
-  pub size-after-remove : length (removed ws protocol spi) ≡ tableWords
+  pub size-after_remove : length (removed ws protocol spi) ≡ table_words
   unfolding removed
-  size-after-remove = by (placeOf ws protocol spi)
+  size-after_remove = by (place_of ws protocol spi)
     where
-      by : (f : Place) → length (clearedAt ws f) ≡ tableWords
-      by (At j) = length-set ws (j * placeWords) 0 ∙ size
+      by : (f : Place) → length (cleared_at ws f) ≡ table_words
+      by (At j) = length-set ws (j * place_words) 0 ∙ size
       by Nowhere = size

@@ -2,10 +2,10 @@
 ghost use Rattle.std.specs.Prelude.{◌≡◌, ◌&&◌, ◌+◌, ◌*◌, ◌≤◌, ◌<◌, length};
 ghost use Rattle.std.proofs.Math.Option.{none};
 ghost use Rattle.std.proofs.lemmas.List.Edits.{sets};
-ghost use Rattle.selectors.specs.Range.{addressSize, protocolSize, portSize, holds};
+ghost use Rattle.selectors.specs.Range.{address_size, protocol_size, port_size, holds};
 ghost use Rattle.selectors.specs.Value.{combination};
-ghost use Rattle.selectors.specs.Words.{rangesAt, values_of};
-ghost use Rattle.sad.specs.Pairs.{placeCount, headWords, placeWords, ipsec, liveAt, pair_at, pairs, named_at, live, fitsAt, wanted, beats, chosen, betterOf, bestOf, pairFor, placeOf, freePlace, reservedSpi, rangesIn, wellFormed, endsIn, addOutcome, added, removeOutcome, removed, pairWords};
+ghost use Rattle.selectors.specs.Words.{ranges_at, values_of};
+ghost use Rattle.sad.specs.Pairs.{place_count, head_words, place_words, ipsec, is_live_at, pair_at, pairs, named_at, live, fits_at, wanted, beats, chosen, better_of, best_of, pair_for, place_of, free_place, reserved_spi, ranges_in_fields, well_formed, ends_in, add_outcome, added, remove_outcome, removed, pair_words};
 
 use selectors::words::{
     FIELDS, RANGES_WORDS, SELECTOR_WORDS, put_ranges, put_word, ranges_hold, selector_words,
@@ -46,7 +46,7 @@ pub struct NewPair {
     pub ranges: Ranges,
 }
 
-// The answers to adding and removing a pair; `outcomeNumber` has document 01's numbers.
+// The answers to adding and removing a pair; `outcome_number` has document 01's numbers.
 #[derive(Drop)]
 pub enum Outcome {
     Done,
@@ -82,7 +82,7 @@ fn is_ipsec(protocol: u64) -> bool
 
 // Whether a place has the live pair of that name. Most places are passed over at their SPI.
 fn is_named(table: &[u64; TABLE_WORDS], place: usize, protocol: u64, spi_in: u64) -> bool
-    requires { place < placeCount }
+    requires { place < place_count }
     ensures { result ≡ named_at table.now protocol spi_in place }
 {
     let at = place * PLACE_WORDS;
@@ -97,7 +97,7 @@ fn is_named(table: &[u64; TABLE_WORDS], place: usize, protocol: u64, spi_in: u64
 
 // The place of the live pair of that name.
 pub fn place_of(table: &[u64; TABLE_WORDS], protocol: u64, spi_in: u32) -> Place
-    ensures { result ≡ placeOf table.now protocol spi_in }
+    ensures { result ≡ place_of table.now protocol spi_in }
 {
     let mut place: usize = 0;
     while place < PLACES {
@@ -122,7 +122,7 @@ pub fn is_live(table: &[u64; TABLE_WORDS], protocol: u64, spi_in: u32) -> bool
 
 // The lowest free place.
 fn free_place(table: &[u64; TABLE_WORDS]) -> Place
-    ensures { result ≡ freePlace table.now }
+    ensures { result ≡ free_place table.now }
 {
     let mut place: usize = 0;
     while place < PLACES {
@@ -136,15 +136,15 @@ fn free_place(table: &[u64; TABLE_WORDS]) -> Place
 
 // Whether the ranges of a place hold the values.
 fn holds_at(table: &[u64; TABLE_WORDS], place: usize, values: &[u64; SELECTOR_WORDS]) -> bool
-    requires { place < placeCount }
-    ensures { result ≡ holds (rangesAt table.now (place * placeWords + headWords)) (values_of values.now) }
+    requires { place < place_count }
+    ensures { result ≡ holds (ranges_at table.now (place * place_words + head_words)) (values_of values.now) }
 {
     ranges_hold(table, place * PLACE_WORDS + HEAD_WORDS, values, FIELDS)
 }
 
 // Whether there is such a place and its ranges hold the values. Who has the place of a pair need not look for it again.
 pub fn fits_at(table: &[u64; TABLE_WORDS], place: usize, selectors: Selectors) -> bool
-    ensures { result ≡ fitsAt table.now place (combination selectors) }
+    ensures { result ≡ fits_at table.now place (combination selectors) }
 {
     if place < PLACES {
         let values = selector_words(selectors);
@@ -160,8 +160,8 @@ fn is_wanted(
     number: u64,
     values: &[u64; SELECTOR_WORDS],
 ) -> bool
-    requires { place < placeCount }
-    ensures { result ≡ liveAt table.now place && wanted number (values_of values.now) (pair_at table.now place) }
+    requires { place < place_count }
+    ensures { result ≡ is_live_at table.now place && wanted number (values_of values.now) (pair_at table.now place) }
 {
     let at = place * PLACE_WORDS;
     if table[at + 3] != number {
@@ -175,7 +175,7 @@ fn is_wanted(
 
 // Whether the pair at a place beats the best so far.
 fn is_better(table: &[u64; TABLE_WORDS], place: usize, best: usize) -> bool
-    requires { place < placeCount }
+    requires { place < place_count }
     ensures { result ≡ beats (pair_at table.now place) (chosen table.now best) }
 {
     if PLACES <= best {
@@ -197,8 +197,8 @@ fn better(
     number: u64,
     values: &[u64; SELECTOR_WORDS],
 ) -> usize
-    requires { place < placeCount }
-    ensures { result ≡ betterOf table.now number (values_of values.now) best place }
+    requires { place < place_count }
+    ensures { result ≡ better_of table.now number (values_of values.now) best place }
 {
     if !is_wanted(table, place, number, values) {
         return best;
@@ -211,7 +211,7 @@ fn better(
 
 // The place of the best pair; 64 where there is none.
 fn best_place(table: &[u64; TABLE_WORDS], number: u64, values: &[u64; SELECTOR_WORDS]) -> usize
-    ensures { chosen table.now result ≡ bestOf number (values_of values.now) none (pairs table.now) }
+    ensures { chosen table.now result ≡ best_of number (values_of values.now) none (pairs table.now) }
 {
     let mut best: usize = PLACES;
     let mut place: usize = 0;
@@ -224,7 +224,7 @@ fn best_place(table: &[u64; TABLE_WORDS], number: u64, values: &[u64; SELECTOR_W
 
 // The pair for a packet under protect-N: 'the smallest inbound SPI, ESP before AH on a tie'.
 pub fn pair_for(table: &[u64; TABLE_WORDS], number: u64, selectors: Selectors) -> PairFound
-    ensures { result ≡ pairFor number (combination selectors) (pairs table.now) }
+    ensures { result ≡ pair_for number (combination selectors) (pairs table.now) }
 {
     let values = selector_words(selectors);
     let best = best_place(table, number, &values);
@@ -236,7 +236,7 @@ pub fn pair_for(table: &[u64; TABLE_WORDS], number: u64, selectors: Selectors) -
 }
 
 fn is_reserved(pair: NewPair) -> bool
-    ensures { result ≡ reservedSpi pair }
+    ensures { result ≡ reserved_spi pair }
 {
     if pair.spi_in < FIRST_SPI {
         return true;
@@ -246,7 +246,7 @@ fn is_reserved(pair: NewPair) -> bool
 
 // Whether the ends are those of a range: of addresses, of protocols, of ports.
 fn is_address_range(ends: Ends) -> bool
-    ensures { result ≡ endsIn addressSize ends }
+    ensures { result ≡ ends_in address_size ends }
 {
     let made = AddressRange::new(ends.low, ends.high);
     match made {
@@ -256,7 +256,7 @@ fn is_address_range(ends: Ends) -> bool
 }
 
 fn is_protocol_range(ends: Ends) -> bool
-    ensures { result ≡ endsIn protocolSize ends }
+    ensures { result ≡ ends_in protocol_size ends }
 {
     let made = ProtocolRange::new(ends.low, ends.high);
     match made {
@@ -266,7 +266,7 @@ fn is_protocol_range(ends: Ends) -> bool
 }
 
 fn is_port_range(ends: Ends) -> bool
-    ensures { result ≡ endsIn portSize ends }
+    ensures { result ≡ ends_in port_size ends }
 {
     let made = PortRange::new(ends.low, ends.high);
     match made {
@@ -277,7 +277,7 @@ fn is_port_range(ends: Ends) -> bool
 
 // Whether all five are ranges of their fields.
 fn are_ranges(ranges: Ranges) -> bool
-    ensures { result ≡ rangesIn ranges }
+    ensures { result ≡ ranges_in_fields ranges }
 {
     if !is_address_range(ranges.local) {
         return false;
@@ -295,7 +295,7 @@ fn are_ranges(ranges: Ranges) -> bool
 }
 
 fn is_well_formed(pair: NewPair) -> bool
-    ensures { result ≡ wellFormed pair }
+    ensures { result ≡ well_formed pair }
 {
     if !is_ipsec(pair.protocol) {
         return false;
@@ -311,8 +311,8 @@ fn is_well_formed(pair: NewPair) -> bool
 
 // Writes a pair's words from a place's first word on.
 fn put_pair(table: &mut [u64], at: usize, pair: NewPair)
-    requires { at + placeWords ≤ length table.old }
-    ensures { table.new ≡ sets table.old at (pairWords pair) }
+    requires { at + place_words ≤ length table.old }
+    ensures { table.new ≡ sets table.old at (pair_words pair) }
 {
     put_word(table, at, pair.protocol);
     put_word(table, at + 1, pair.spi_in as u64);
@@ -323,7 +323,7 @@ fn put_pair(table: &mut [u64], at: usize, pair: NewPair)
 
 // Adds a pair at the lowest free place. 'An added pair: 25, 28, 26, 27'; a refusal changes nothing.
 pub fn add(table: &mut [u64; TABLE_WORDS], pair: NewPair) -> Outcome
-    ensures { (result ≡ addOutcome (pairs table.old) pair) × (table.new ≡ added table.old pair) }
+    ensures { (result ≡ add_outcome (pairs table.old) pair) × (table.new ≡ added table.old pair) }
 {
     if is_reserved(pair) {
         return Outcome::ReservedSpi;
@@ -344,7 +344,7 @@ pub fn add(table: &mut [u64; TABLE_WORDS], pair: NewPair) -> Outcome
 
 // Removes a pair, so that its place is free. 'A removal, whatever it names: 29 only.'
 pub fn remove(table: &mut [u64; TABLE_WORDS], protocol: u64, spi_in: u32) -> Outcome
-    ensures { (result ≡ removeOutcome (pairs table.old) protocol spi_in) × (table.new ≡ removed table.old protocol spi_in) }
+    ensures { (result ≡ remove_outcome (pairs table.old) protocol spi_in) × (table.new ≡ removed table.old protocol spi_in) }
 {
     let found = place_of(table, protocol, spi_in);
     let Place::At(place) = found else {

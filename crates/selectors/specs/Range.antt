@@ -20,33 +20,33 @@ holds (r ∷ rs) [] = false
 holds (r ∷ rs) (v ∷ vs) = contains r v && holds rs vs
 
 -- A field of a size S has the values 0 to S - 1. A range of such a field: low at most high, and high in the field.
-unfoldable pub inField : ℕ → Range → Bool
-inField size r = leb r.low r.high && ltb r.high size
+unfoldable pub in_field : ℕ → Range → Bool
+in_field size r = leb r.low r.high && ltb r.high size
 
 -- ANY of a field: all its values.
 abbrev pub full : ℕ → Range
 full size = range 0 (size - 1)
 
-unfoldable pub sameRange : Range → Range → Bool
-sameRange r q = eqb r.low q.low && eqb r.high q.high
+unfoldable pub same_range : Range → Range → Bool
+same_range r q = eqb r.low q.low && eqb r.high q.high
 
-abbrev pub addressSize : ℕ
-addressSize = 2 ^ 32
+abbrev pub address_size : ℕ
+address_size = 2 ^ 32
 
-abbrev pub protocolSize : ℕ
-protocolSize = 256
+abbrev pub protocol_size : ℕ
+protocol_size = 256
 
 -- Document 01: 'For ports, absent stands one step after 65,535.'
 abbrev pub absent : ℕ
 absent = 65536
 
-abbrev pub portSize : ℕ
-portSize = 65537
+abbrev pub port_size : ℕ
+port_size = 65537
 
 -- OPAQUE: the absent port alone.
 abbrev pub opaque : Range
 opaque = range absent absent
 
 -- The sizes of the fields, in the order of the policy file: local address, remote address, protocol, local port, remote port.
-abbrev pub ipv4Sizes : List ℕ
-ipv4Sizes = addressSize ∷ addressSize ∷ protocolSize ∷ portSize ∷ portSize ∷ []
+abbrev pub ipv4_sizes : List ℕ
+ipv4_sizes = address_size ∷ address_size ∷ protocol_size ∷ port_size ∷ port_size ∷ []

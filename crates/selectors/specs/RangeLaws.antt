@@ -5,7 +5,7 @@ use Rattle.std.proofs.Math.Decide.{dec_le, dec_lt, ℕ_discrete}
 use Rattle.std.proofs.Math.Bool.{and-false}
 use Rattle.std.proofs.lemmas.Bool.{false≢true, lt-leb}
 use Rattle.std.proofs.Math.Dec.{leb-suc-suc}
-use Rattle.selectors.specs.Range.{Range, range, contains, holds, inField, sameRange, full, opaque, absent, portSize}
+use Rattle.selectors.specs.Range.{Range, range, contains, holds, in_field, same_range, full, opaque, absent, port_size}
 
 -- Both of two tests that hold together hold.
 pub both_true : (a b : Bool) → (a && b) ≡ true → (a ≡ true) × (b ≡ true)
@@ -13,22 +13,22 @@ both_true true b e = (refl, e)
 both_true false b e = absurd (false≢true e)
 
 -- A value is in a range, below it or above it.
-pub contains-in : (r : Range) (v : ℕ) → r.low ≤ v → v ≤ r.high → contains r v ≡ true
+pub contains_in : (r : Range) (v : ℕ) → r.low ≤ v → v ≤ r.high → contains r v ≡ true
 unfolding contains
-contains-in r v p q = rw (le-leb r.low v p, le-leb v r.high q)
+contains_in r v p q = rw (le-leb r.low v p, le-leb v r.high q)
 
-pub contains-below : (r : Range) (v : ℕ) → v < r.low → contains r v ≡ false
+pub contains_below : (r : Range) (v : ℕ) → v < r.low → contains r v ≡ false
 unfolding contains
-contains-below r v p = rw (lt-leb r.low v p)
+contains_below r v p = rw (lt-leb r.low v p)
 
-pub contains-above : (r : Range) (v : ℕ) → r.high < v → contains r v ≡ false
+pub contains_above : (r : Range) (v : ℕ) → r.high < v → contains r v ≡ false
 unfolding contains
-contains-above r v p = rw (lt-leb v r.high p) (and-false (leb r.low v))
+contains_above r v p = rw (lt-leb v r.high p) (and-false (leb r.low v))
 
 -- A value that a range holds is from its low end to its high end.
-pub contains-between : (r : Range) (v : ℕ) → contains r v ≡ true → (r.low ≤ v) × (v ≤ r.high)
+pub contains_between : (r : Range) (v : ℕ) → contains r v ≡ true → (r.low ≤ v) × (v ≤ r.high)
 unfolding contains
-contains-between r v e = let p = both_true (leb r.low v) _ e in (leb-true _ _ p.0, leb-true _ _ p.1)
+contains_between r v e = let p = both_true (leb r.low v) _ e in (leb-true _ _ p.0, leb-true _ _ p.1)
 
 not-ltb : (a b : ℕ) → not (ltb a b) ≡ leb b a
 not-ltb a b = by (dec_le b a)
@@ -38,44 +38,44 @@ not-ltb a b = by (dec_le b a)
     by (no h) = rw (lt-ltb a b (omega arith), lt-leb b a (omega arith))
 
 -- A range by two tests of order: below its low end it holds nothing, and from there on what is not above its high end.
-pub contains-not-below : (r : Range) (v : ℕ) → r.low ≤ v → not (ltb r.high v) ≡ contains r v
+pub contains_not_below : (r : Range) (v : ℕ) → r.low ≤ v → not (ltb r.high v) ≡ contains r v
 unfolding contains
-contains-not-below r v p = rw (le-leb r.low v p) (not-ltb r.high v)
+contains_not_below r v p = rw (le-leb r.low v p) (not-ltb r.high v)
 
 -- A range of a field whose highest value is h, by two tests of order.
-pub inField-reversed : (size : ℕ) (r : Range) → r.high < r.low → inField size r ≡ false
-unfolding inField
-inField-reversed size r p = rw (lt-leb r.low r.high p)
+pub in_field_reversed : (size : ℕ) (r : Range) → r.high < r.low → in_field size r ≡ false
+unfolding in_field
+in_field_reversed size r p = rw (lt-leb r.low r.high p)
 
-pub inField-ordered : (h : ℕ) (r : Range) → r.low ≤ r.high → not (ltb h r.high) ≡ inField (h + 1) r
-unfolding inField
-inField-ordered h r p = rw (le-leb r.low r.high p, add-one, leb-suc-suc) (not-ltb h r.high)
+pub in_field_ordered : (h : ℕ) (r : Range) → r.low ≤ r.high → not (ltb h r.high) ≡ in_field (h + 1) r
+unfolding in_field
+in_field_ordered h r p = rw (le-leb r.low r.high p, add-one, leb-suc-suc) (not-ltb h r.high)
 
 -- ANY holds every value of its field, the absent port too; 0 to 65,535 does not hold absent; OPAQUE holds absent alone.
 pub full-holds : (size v : ℕ) → v < size → contains (full size) v ≡ true
-full-holds size v h = contains-in (full size) v (omega arith) (omega arith)
+full-holds size v h = contains_in (full size) v (omega arith) (omega arith)
 
-pub any-holds-absent : contains (full portSize) absent ≡ true
-any-holds-absent = full-holds portSize absent (omega arith)
+pub any-holds-absent : contains (full port_size) absent ≡ true
+any-holds-absent = full-holds port_size absent (omega arith)
 
 pub numbers-without-absent : contains (range 0 65535) absent ≡ false
-numbers-without-absent = contains-above (range 0 65535) absent (omega arith)
+numbers-without-absent = contains_above (range 0 65535) absent (omega arith)
 
-pub opaque-alone : (v : ℕ) → contains opaque v ≡ eqb v absent
-opaque-alone v = by (ℕ_discrete v absent)
+pub opaque_alone : (v : ℕ) → contains opaque v ≡ eqb v absent
+opaque_alone v = by (ℕ_discrete v absent)
   where
     by : Dec (v ≡ absent) → contains opaque v ≡ eqb v absent
-    by (yes e) = rw (eq-eqb v absent e) (contains-in opaque v (omega arith) (omega arith))
+    by (yes e) = rw (eq-eqb v absent e) (contains_in opaque v (omega arith) (omega arith))
     by (no n) = rw (ne_eqb v absent n) (other (dec_lt v absent))
       where
         other : Dec (v < absent) → contains opaque v ≡ false
-        other (yes h) = contains-below opaque v h
-        other (no h) = contains-above opaque v (omega arith)
+        other (yes h) = contains_below opaque v h
+        other (no h) = contains_above opaque v (omega arith)
 
 -- Two ranges with the same ends are one range.
-pub sameRange-true : (r q : Range) → sameRange r q ≡ true → r ≡ q
-unfolding sameRange
-sameRange-true r q e =
+pub same_range_true : (r q : Range) → same_range r q ≡ true → r ≡ q
+unfolding same_range
+same_range_true r q e =
     let p = both_true (eqb r.low q.low) _ e in
     let l : r.low ≡ q.low = eqb-true _ _ p.0 in
     let h : r.high ≡ q.high = eqb-true _ _ p.1 in

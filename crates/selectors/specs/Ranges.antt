@@ -1,6 +1,6 @@
 -- The three types of ranges as ranges of numbers, and what their constructors answer. Assumes nothing: these are definitions.
 use Rattle.std.specs.Prelude.{ℕ, cond, List, [], ◌∷◌}
-use Rattle.selectors.specs.Range.{Range, range, inField, addressSize, protocolSize, portSize}
+use Rattle.selectors.specs.Range.{Range, range, in_field, address_size, protocol_size, port_size}
 use Rattle.selectors.specs.Value.{number}
 use Rattle.selectors.specs.declared.Value.{Value}
 use Rattle.selectors.specs.declared.Ends.{Ends}
@@ -16,33 +16,33 @@ use Rattle.selectors.specs.declared.NewPortRange.{NewPortRange}
 use Rattle.selectors.specs.declared.NewPortRange.TheVariants.{Made as PortMade, Refused as PortRefused}
 
 -- The range from one value to another.
-abbrev pub fromTo : Value → Value → Range
-fromTo low high = range (number low) (number high)
+abbrev pub from_to : Value → Value → Range
+from_to low high = range (number low) (number high)
 
-abbrev pub endsRange : Ends → Range
-endsRange e = fromTo e.low e.high
+abbrev pub ends_range : Ends → Range
+ends_range e = from_to e.low e.high
 
 -- The ranges of the five fields, by their ends.
-abbrev pub fiveRanges : Ranges → List Range
-fiveRanges r = endsRange r.local ∷ endsRange r.remote ∷ endsRange r.protocol ∷ endsRange r.local_port ∷ endsRange r.remote_port ∷ []
+abbrev pub five_ranges : Ranges → List Range
+five_ranges r = ends_range r.local ∷ ends_range r.remote ∷ ends_range r.protocol ∷ ends_range r.local_port ∷ ends_range r.remote_port ∷ []
 
-abbrev pub addressRange : AddressRange → Range
-addressRange r = fromTo r.low r.high
+abbrev pub address_range : AddressRange → Range
+address_range r = from_to r.low r.high
 
-abbrev pub protocolRange : ProtocolRange → Range
-protocolRange r = fromTo r.low r.high
+abbrev pub protocol_range : ProtocolRange → Range
+protocol_range r = from_to r.low r.high
 
-abbrev pub portRange : PortRange → Range
-portRange r = fromTo r.low r.high
+abbrev pub port_range : PortRange → Range
+port_range r = from_to r.low r.high
 
 -- A constructor makes the range, and refuses one with low above high or an end beyond its field.
-abbrev pub newAddressRange : Value → Value → NewAddressRange
-newAddressRange low high =
-    cond (inField addressSize (fromTo low high)) (AddressMade (record { low = low; high = high })) AddressRefused
+abbrev pub new_address_range : Value → Value → NewAddressRange
+new_address_range low high =
+    cond (in_field address_size (from_to low high)) (AddressMade (record { low = low; high = high })) AddressRefused
 
-abbrev pub newProtocolRange : Value → Value → NewProtocolRange
-newProtocolRange low high =
-    cond (inField protocolSize (fromTo low high)) (ProtocolMade (record { low = low; high = high })) ProtocolRefused
+abbrev pub new_protocol_range : Value → Value → NewProtocolRange
+new_protocol_range low high =
+    cond (in_field protocol_size (from_to low high)) (ProtocolMade (record { low = low; high = high })) ProtocolRefused
 
-abbrev pub newPortRange : Value → Value → NewPortRange
-newPortRange low high = cond (inField portSize (fromTo low high)) (PortMade (record { low = low; high = high })) PortRefused
+abbrev pub new_port_range : Value → Value → NewPortRange
+new_port_range low high = cond (in_field port_size (from_to low high)) (PortMade (record { low = low; high = high })) PortRefused

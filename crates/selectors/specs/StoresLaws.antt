@@ -13,8 +13,8 @@ module _ (ws s : List ℕ) (at n : ℕ) (h : at + n ≤ length ws) (g : n ≤ le
       ∙ get_or-append (take at ws) (take n s) 0 p (omega (arith, length-take-le at ws (omega arith)))
       ∙ get_or-take at ws p 0 l
 
-  pub paste-in : (x : ℕ) → x < n → get_or (paste ws at s n) (at + x) 0 ≡ get_or s x 0
-  paste-in x l =
+  pub paste_in : (x : ℕ) → x < n → get_or (paste ws at s n) (at + x) 0 ≡ get_or s x 0
+  paste_in x l =
       get_or-append (take at ws ++ take n s) (drop (at + n) ws) 0 (at + x) (omega (arith, length_paste_head ws at s n (omega arith) g))
       ∙ ap (λ k. get_or (take at ws ++ take n s) (k + x) 0) (sym (length-take-le at ws (omega arith)))
       ∙ get_or-append-add (take at ws) (take n s) x 0
@@ -37,6 +37,6 @@ sets_more l at (x ∷ xs) ys =
     rw e (sets_more (set l at x) (suc at) xs ys)
 
 -- A run that begins past the end stores nothing.
-pub sets-out : (l : List ℕ) (at : ℕ) (xs : List ℕ) → length l ≤ at → sets l at xs ≡ l
-sets-out l at [] h = refl
-sets-out l at (x ∷ xs) h = rw (set_out l at x h) (sets-out l (suc at) xs (omega arith))
+pub sets_out : (l : List ℕ) (at : ℕ) (xs : List ℕ) → length l ≤ at → sets l at xs ≡ l
+sets_out l at [] h = refl
+sets_out l at (x ∷ xs) h = rw (set_out l at x h) (sets_out l (suc at) xs (omega arith))

@@ -13,8 +13,8 @@ module _ (B : ℕ) where
       let m : suc u * B ≤ u' * B = mul-le-mul_right B g in
       omega (arith, suc-mul u B)
 
-  upper-same : (u l u' l' : ℕ) → l < B → l' < B → u * B + l ≡ u' * B + l' → u ≡ u'
-  upper-same u l u' l' h h' e = by (dec_lt u u') (dec_lt u' u)
+  upper_same : (u l u' l' : ℕ) → l < B → l' < B → u * B + l ≡ u' * B + l' → u ≡ u'
+  upper_same u l u' l' h h' e = by (dec_lt u u') (dec_lt u' u)
     where
       by : Dec (u < u') → Dec (u' < u) → u ≡ u'
       by (yes g) d = absurd (omega (arith, upper_first u l u' l' h g))
@@ -22,16 +22,16 @@ module _ (B : ℕ) where
       by (no n) (no n') = omega arith
 
 -- Two tests agree if each fact gives the other.
-ltb-alike : (a b c d : ℕ) → (a < b → c < d) → (c < d → a < b) → ltb a b ≡ ltb c d
-ltb-alike a b c d f g = by (dec_lt a b) (dec_lt c d)
+ltb_alike : (a b c d : ℕ) → (a < b → c < d) → (c < d → a < b) → ltb a b ≡ ltb c d
+ltb_alike a b c d f g = by (dec_lt a b) (dec_lt c d)
   where
     by : Dec (a < b) → Dec (c < d) → ltb a b ≡ ltb c d
     by (yes h) e = rw (lt-ltb a b h, lt-ltb c d (f h))
     by (no h) (yes e) = absurd (h (g e))
     by (no h) (no e) = rw (le-ltb a b (omega arith), le-ltb c d (omega arith))
 
-eqb-alike : (a b c d : ℕ) → (a ≡ b → c ≡ d) → (c ≡ d → a ≡ b) → eqb a b ≡ eqb c d
-eqb-alike a b c d f g = by (ℕ_discrete a b)
+eqb_alike : (a b c d : ℕ) → (a ≡ b → c ≡ d) → (c ≡ d → a ≡ b) → eqb a b ≡ eqb c d
+eqb_alike a b c d f g = by (ℕ_discrete a b)
   where
     by : Dec (a ≡ b) → eqb a b ≡ eqb c d
     by (yes h) = rw (eq-eqb a b h, eq-eqb c d (f h))
@@ -40,7 +40,7 @@ eqb-alike a b c d f g = by (ℕ_discrete a b)
 -- Both words are words.
 pub record Words (v : Value) : Type 0 where
   pub upper_fits : v.upper < 2 ^ 64
-  pub lower-fits : v.lower < 2 ^ 64
+  pub lower_fits : v.lower < 2 ^ 64
 
 -- A value whose upper word is 0 is its lower word.
 pub number-lower : (v : Value) → v.upper ≡ 0 → number v ≡ v.lower
@@ -49,41 +49,41 @@ number-lower v e = rw e (omega arith)
 
 pub number_bound : (v : Value) → Words v → number v < 2 ^ 128
 unfolding number
-number_bound v w = upper_first (2 ^ 64) v.upper v.lower (2 ^ 64) 0 w.lower-fits w.upper_fits
+number_bound v w = upper_first (2 ^ 64) v.upper v.lower (2 ^ 64) 0 w.lower_fits w.upper_fits
 
 -- The order of two values: by the upper words, and by the lower ones where those are the same.
 pub less-lower : (a b : Value) → a.upper ≡ b.upper → ltb a.lower b.lower ≡ ltb (number a) (number b)
 unfolding number
-less-lower a b e = ltb-alike a.lower b.lower (number a) (number b) (λ h. omega arith) (λ h. omega arith)
+less-lower a b e = ltb_alike a.lower b.lower (number a) (number b) (λ h. omega arith) (λ h. omega arith)
 
-pub less-upper : (a b : Value) → Words a → Words b → (a.upper ≡ b.upper → ⊥)
+pub less_upper : (a b : Value) → Words a → Words b → (a.upper ≡ b.upper → ⊥)
     → ltb a.upper b.upper ≡ ltb (number a) (number b)
 unfolding number
-less-upper a b wa wb n =
-    ltb-alike a.upper b.upper _ _
-    (upper_first (2 ^ 64) a.upper a.lower b.upper b.lower wa.lower-fits)
+less_upper a b wa wb n =
+    ltb_alike a.upper b.upper _ _
+    (upper_first (2 ^ 64) a.upper a.lower b.upper b.lower wa.lower_fits)
     (λ h. by (dec_lt a.upper b.upper) (dec_lt b.upper a.upper) h)
   where
     by : Dec (a.upper < b.upper) → Dec (b.upper < a.upper) → number a < number b → a.upper < b.upper
     by (yes g) d h = g
-    by (no g) (yes g') h = absurd (omega (arith, h, upper_first (2 ^ 64) b.upper b.lower a.upper a.lower wb.lower-fits g'))
+    by (no g) (yes g') h = absurd (omega (arith, h, upper_first (2 ^ 64) b.upper b.lower a.upper a.lower wb.lower_fits g'))
     by (no g) (no g') h = absurd (n (omega arith))
 
 pub same-lower : (a b : Value) → a.upper ≡ b.upper → eqb a.lower b.lower ≡ eqb (number a) (number b)
 unfolding number
-same-lower a b e = eqb-alike a.lower b.lower (number a) (number b) (λ h. omega arith) (λ h. omega arith)
+same-lower a b e = eqb_alike a.lower b.lower (number a) (number b) (λ h. omega arith) (λ h. omega arith)
 
-pub same-upper : (a b : Value) → Words a → Words b → (a.upper ≡ b.upper → ⊥) → eqb (number a) (number b) ≡ false
+pub same_upper : (a b : Value) → Words a → Words b → (a.upper ≡ b.upper → ⊥) → eqb (number a) (number b) ≡ false
 unfolding number
-same-upper a b wa wb n =
+same_upper a b wa wb n =
     ne_eqb (number a) (number b)
-    (λ e. n (upper-same (2 ^ 64) a.upper a.lower b.upper b.lower wa.lower-fits wb.lower-fits e))
+    (λ e. n (upper_same (2 ^ 64) a.upper a.lower b.upper b.lower wa.lower_fits wb.lower_fits e))
 
 -- Two values are one number just where their words are the same.
 pub number-words : (a b : Value) → Words a → Words b → number a ≡ number b → (a.upper ≡ b.upper) × (a.lower ≡ b.lower)
 unfolding number
 number-words a b wa wb e =
-    let u : a.upper ≡ b.upper = upper-same (2 ^ 64) a.upper a.lower b.upper b.lower wa.lower-fits wb.lower-fits e in
+    let u : a.upper ≡ b.upper = upper_same (2 ^ 64) a.upper a.lower b.upper b.lower wa.lower_fits wb.lower_fits e in
     (u, omega (arith, rw u at e))
 
 -- One more below a limit M, and none at the last number below it.
@@ -104,10 +104,10 @@ next-lower v w h =
     one_more (2 ^ 128) (v.upper * 2 ^ 64 + (v.lower + 1)) (number v) (omega arith)
     (upper_first (2 ^ 64) v.upper (v.lower + 1) (2 ^ 64) 0 (omega arith) w.upper_fits)
 
-pub next-upper : (v : Value) → Words v → 2 ^ 64 - 1 ≤ v.lower → v.upper < 2 ^ 64 - 1
+pub next_upper : (v : Value) → Words v → 2 ^ 64 - 1 ≤ v.lower → v.upper < 2 ^ 64 - 1
     → number (record { upper = v.upper + 1; lower = 0 }) ≡ min (number v + 1) (2 ^ 128 - 1)
 unfolding number
-next-upper v w h g =
+next_upper v w h g =
     one_more (2 ^ 128) ((v.upper + 1) * 2 ^ 64 + 0) (number v) (omega arith)
     (upper_first (2 ^ 64) (v.upper + 1) 0 (2 ^ 64) 0 (omega arith) (omega arith))
 
@@ -123,11 +123,11 @@ pub previous-lower : (v : Value) → 0 < v.lower → number (record { upper = v.
 unfolding number
 previous-lower v h = omega arith
 
-pub previous-upper : (v : Value) → v.lower ≤ 0 → 0 < v.upper
+pub previous_upper : (v : Value) → v.lower ≤ 0 → 0 < v.upper
     → number (record { upper = v.upper - 1; lower = 18446744073709551615 }) ≡ number v - 1
 unfolding number
-previous-upper v h g = omega arith
+previous_upper v h g = omega arith
 
-pub previous-first : (v : Value) → v.lower ≤ 0 → v.upper ≤ 0 → number v ≡ number v - 1
+pub previous_first : (v : Value) → v.lower ≤ 0 → v.upper ≤ 0 → number v ≡ number v - 1
 unfolding number
-previous-first v h g = omega arith
+previous_first v h g = omega arith

@@ -11,58 +11,58 @@ use Rattle.std.proofs.lemmas.List.Edits.{sets}
 use Rattle.std.proofs.Math.ListN.{take, get_or-eq_default}
 use Rattle.std.proofs.lemmas.Bool.{lt-leb}
 use Rattle.selectors.specs.Range.{Range, contains}
-use Rattle.selectors.specs.Ranges.{fromTo, endsRange, fiveRanges}
-use Rattle.selectors.specs.HeldLaws.{all-ranges}
+use Rattle.selectors.specs.Ranges.{from_to, ends_range, five_ranges}
+use Rattle.selectors.specs.HeldLaws.{all_ranges}
 use Rattle.selectors.specs.StoresLaws.{sets_more}
 use Rattle.selectors.specs.Value.{number, combination}
 use Rattle.selectors.specs.ValueLaws.{Words}
-use Rattle.selectors.specs.Words.{fieldCount, rangesWords, value_at, ends_at, rangeAt, rangesAt, rangesFrom, values_of, selectorsOf, wordsOfValue, wordsOfRange, wordsOfRanges, wordsOfSelectors}
+use Rattle.selectors.specs.Words.{field_count, ranges_words, value_at, ends_at, range_at, ranges_at, ranges_from, values_of, selectors_in, words_of_value, words_of_range, words_of_ranges, words_of_selectors}
 use Rattle.selectors.specs.declared.Ends.{Ends}
 use Rattle.selectors.specs.declared.Ranges.{Ranges}
 use Rattle.selectors.specs.declared.Selectors.{Selectors}
 use Rattle.selectors.specs.declared.Value.{Value}
 
 -- Whether so many words are there, by what is left of them.
-pub leb-moved : (a c n : ℕ) → c ≤ n → leb a (n - c) ≡ leb (a + c) n
-leb-moved a c n h = by (dec_le (a + c) n)
+pub leb_moved : (a c n : ℕ) → c ≤ n → leb a (n - c) ≡ leb (a + c) n
+leb_moved a c n h = by (dec_le (a + c) n)
   where
     by : Dec (a + c ≤ n) → leb a (n - c) ≡ leb (a + c) n
     by (yes g) = rw (le-leb a (n - c) (omega arith), le-leb (a + c) n g)
     by (no g) = rw (lt-leb a (n - c) (omega arith), lt-leb (a + c) n (omega arith))
 
 -- Words that are not there.
-pub value-short : (ws : List ℕ) (i : ℕ) → length ws < i + 2 → (v : Value) → v.upper ≡ get_or ws i 0 → v.lower ≡ 0 → v ≡ value_at ws i
+pub value_short : (ws : List ℕ) (i : ℕ) → length ws < i + 2 → (v : Value) → v.upper ≡ get_or ws i 0 → v.lower ≡ 0 → v ≡ value_at ws i
 unfolding value_at
-value-short ws i h v p q = rw (get_or-eq_default ws 0 {n = i + 1} (omega arith)) (λ k. record { upper = p k; lower = q k })
+value_short ws i h v p q = rw (get_or-eq_default ws 0 {n = i + 1} (omega arith)) (λ k. record { upper = p k; lower = q k })
 
-pub value-missing : (ws : List ℕ) (i : ℕ) → length ws ≤ i → record { upper = 0; lower = 0 } ≡ value_at ws i
+pub value_missing : (ws : List ℕ) (i : ℕ) → length ws ≤ i → record { upper = 0; lower = 0 } ≡ value_at ws i
 unfolding value_at
-value-missing ws i h = rw (get_or-eq_default ws 0 {n = i} h, get_or-eq_default ws 0 {n = i + 1} (omega arith))
+value_missing ws i h = rw (get_or-eq_default ws 0 {n = i} h, get_or-eq_default ws 0 {n = i + 1} (omega arith))
 
-pub ends-missing : (ws : List ℕ) (i : ℕ) → length ws ≤ i → record { low = record { upper = 0; lower = 0 }; high = record { upper = 0; lower = 0 } } ≡ ends_at ws i
-ends-missing ws i h = rw (← (value-missing ws i h), ← (value-missing ws (i + 2) (omega arith)))
+pub ends_missing : (ws : List ℕ) (i : ℕ) → length ws ≤ i → record { low = record { upper = 0; lower = 0 }; high = record { upper = 0; lower = 0 } } ≡ ends_at ws i
+ends_missing ws i h = rw (← (value_missing ws i h), ← (value_missing ws (i + 2) (omega arith)))
 
 -- The words of a value of two words are those words.
-pub words-of-value : (v : Value) → Words v → wordsOfValue (number v) ≡ v.upper ∷ v.lower ∷ []
-unfolding number wordsOfValue
+pub words-of-value : (v : Value) → Words v → words_of_value (number v) ≡ v.upper ∷ v.lower ∷ []
+unfolding number words_of_value
 words-of-value v w =
-    let l : v.lower < 18446744073709551616 = w.lower-fits in
+    let l : v.lower < 18446744073709551616 = w.lower_fits in
     let p : (v.upper * 18446744073709551616 + v.lower) / 18446744073709551616 ≡ v.upper = omega arith in
     let q : (v.upper * 18446744073709551616 + v.lower) % 18446744073709551616 ≡ v.lower = omega arith in
     rw (p, q)
 
 -- Writing them, the second of the two where it has a place.
 module _ (ws : List ℕ) (at : ℕ) (v : Value) (w : Words v) where
-  pub value-put : set (set ws at v.upper) (at + 1) v.lower ≡ sets ws at (wordsOfValue (number v))
+  pub value-put : set (set ws at v.upper) (at + 1) v.lower ≡ sets ws at (words_of_value (number v))
   value-put = rw (words-of-value v w, add-one)
 
-  pub value-put-short : length ws ≤ at + 1 → set ws at v.upper ≡ sets ws at (wordsOfValue (number v))
-  value-put-short h = sym (set_out (set ws at v.upper) (at + 1) v.lower (rw length-set h)) ∙ value-put
+  pub value-put_short : length ws ≤ at + 1 → set ws at v.upper ≡ sets ws at (words_of_value (number v))
+  value-put_short h = sym (set_out (set ws at v.upper) (at + 1) v.lower (rw length-set h)) ∙ value-put
 
 -- A range's words are those of its low end and then those of its high end.
-pub range-put : (ws : List ℕ) (at m n : ℕ) → sets (sets ws at (wordsOfValue m)) (at + 2) (wordsOfValue n) ≡ sets ws at (wordsOfValue m ++ wordsOfValue n)
-unfolding wordsOfValue
-range-put ws at m n = sets_more ws at (wordsOfValue m) (wordsOfValue n)
+pub range-put : (ws : List ℕ) (at m n : ℕ) → sets (sets ws at (words_of_value m)) (at + 2) (words_of_value n) ≡ sets ws at (words_of_value m ++ words_of_value n)
+unfolding words_of_value
+range-put ws at m n = sets_more ws at (words_of_value m) (words_of_value n)
 
 -- Five ranges' words, run after run.
 run_more : (ws : List ℕ) (at n : ℕ) (A B : List ℕ) → length A ≡ n → sets (sets ws at A) (at + n) B ≡ sets ws at (A ++ B)
@@ -86,23 +86,23 @@ five-runs ws at A B C D E a b c d =
     ∙ ap (λ (l : List ℕ). sets ws at l) whole
 
 pub ranges-put : (ws : List ℕ) (at : ℕ) (r : Ranges)
-    → sets (sets (sets (sets (sets ws at (wordsOfRange (endsRange r.local))) (at + 4) (wordsOfRange (endsRange r.remote))) (at + 8) (wordsOfRange (endsRange r.protocol))) (at + 12) (wordsOfRange (endsRange r.local_port))) (at + 16) (wordsOfRange (endsRange r.remote_port))
-    ≡ sets ws at (wordsOfRanges (fiveRanges r))
-unfolding wordsOfValue
+    → sets (sets (sets (sets (sets ws at (words_of_range (ends_range r.local))) (at + 4) (words_of_range (ends_range r.remote))) (at + 8) (words_of_range (ends_range r.protocol))) (at + 12) (words_of_range (ends_range r.local_port))) (at + 16) (words_of_range (ends_range r.remote_port))
+    ≡ sets ws at (words_of_ranges (five_ranges r))
+unfolding words_of_value
 ranges-put ws at r =
-    five-runs ws at (wordsOfRange (endsRange r.local)) (wordsOfRange (endsRange r.remote)) (wordsOfRange (endsRange r.protocol)) (wordsOfRange (endsRange r.local_port))
-    (wordsOfRange (endsRange r.remote_port) ++ []) refl refl refl refl
+    five-runs ws at (words_of_range (ends_range r.local)) (words_of_range (ends_range r.remote)) (words_of_range (ends_range r.protocol)) (words_of_range (ends_range r.local_port))
+    (words_of_range (ends_range r.remote_port) ++ []) refl refl refl refl
 
-pub ends-are : (e : Ends) (low high : Value) → e.low ≡ low → e.high ≡ high → e ≡ record { low = low; high = high }
-ends-are e low high p q = λ k. record { low = p k; high = q k }
+pub ends_are : (e : Ends) (low high : Value) → e.low ≡ low → e.high ≡ high → e ≡ record { low = low; high = high }
+ends_are e low high p q = λ k. record { low = p k; high = q k }
 
-pub ranges-are : (r q : Ranges) → r.local ≡ q.local → r.remote ≡ q.remote → r.protocol ≡ q.protocol → r.local_port ≡ q.local_port
+pub ranges_are : (r q : Ranges) → r.local ≡ q.local → r.remote ≡ q.remote → r.protocol ≡ q.protocol → r.local_port ≡ q.local_port
     → r.remote_port ≡ q.remote_port → r ≡ q
-ranges-are r q l m p x y = λ k. record { local = l k; remote = m k; protocol = p k; local_port = x k; remote_port = y k }
+ranges_are r q l m p x y = λ k. record { local = l k; remote = m k; protocol = p k; local_port = x k; remote_port = y k }
 
 -- A range by its ends.
-pub ends-hold : (low high : Value) (ws : List ℕ) (i v : ℕ) → low ≡ value_at ws i → high ≡ value_at ws (i + 2) → contains (fromTo low high) v ≡ contains (rangeAt ws i) v
-ends-hold low high ws i v p q = rw (p, q)
+pub ends_hold : (low high : Value) (ws : List ℕ) (i v : ℕ) → low ≡ value_at ws i → high ≡ value_at ws (i + 2) → contains (from_to low high) v ≡ contains (range_at ws i) v
+ends_hold low high ws i v p q = rw (p, q)
 
 -- What was written is read: a value, and five ranges.
 pub value_written : (n : ℕ) → number (record { upper = n / 2 ^ 64; lower = n % 2 ^ 64 }) ≡ n
@@ -110,13 +110,13 @@ unfolding number
 value_written n = div-add-mod' n (2 ^ 64)
 
 -- The words of selectors are their values.
-pub selector-values : (s : Selectors) → values_of (wordsOfSelectors s) ≡ combination s
-unfolding value_at wordsOfSelectors
-selector-values s = refl
+pub selector_values : (s : Selectors) → values_of (words_of_selectors s) ≡ combination s
+unfolding value_at words_of_selectors
+selector_values s = refl
 
-pub selectors-values : (ws : List ℕ) → combination (selectorsOf ws) ≡ values_of ws
-unfolding selectorsOf
-selectors-values ws = refl
+pub selectors_values : (ws : List ℕ) → combination (selectors_in ws) ≡ values_of ws
+unfolding selectors_in
+selectors_values ws = refl
 
 -- Every number of a list is a word.
 abbrev pub AllWords : List ℕ → Type 0
@@ -124,9 +124,9 @@ AllWords ws = (i : ℕ) → get_or ws i 0 < 2 ^ 64
 
 -- Then the words of what stands there are those that stand there: of a value, of a range, and of n ranges from the field f on.
 module _ (ws : List ℕ) (fit : AllWords ws) where
-  value-exact : (i : ℕ) → wordsOfValue (number (value_at ws i)) ≡ get_or ws i 0 ∷ get_or ws (i + 1) 0 ∷ []
+  value_exact : (i : ℕ) → words_of_value (number (value_at ws i)) ≡ get_or ws i 0 ∷ get_or ws (i + 1) 0 ∷ []
   unfolding value_at
-  value-exact i = words-of-value (value_at ws i) (record { upper_fits = fit i; lower-fits = fit (i + 1) })
+  value_exact i = words-of-value (value_at ws i) (record { upper_fits = fit i; lower_fits = fit (i + 1) })
 
   four-words : (i : ℕ) → i + 4 ≤ length ws → take 4 (drop i ws) ≡ get_or ws i 0 ∷ get_or ws (i + 1) 0 ∷ get_or ws (i + 2) 0 ∷ get_or ws (i + 3) 0 ∷ []
   four-words i h =
@@ -140,22 +140,22 @@ module _ (ws : List ℕ) (fit : AllWords ws) where
       ap (λ (l : List ℕ). take 4 l)
       (d0 ∙ ap (λ (l : List ℕ). get_or ws i 0 ∷ l) (d1 ∙ ap (λ (l : List ℕ). get_or ws (i + 1) 0 ∷ l) (d2 ∙ ap (λ (l : List ℕ). get_or ws (i + 2) 0 ∷ l) d3)))
 
-  range-exact : (i : ℕ) → i + 4 ≤ length ws → wordsOfRange (rangeAt ws i) ≡ take 4 (drop i ws)
-  range-exact i h =
+  range_exact : (i : ℕ) → i + 4 ≤ length ws → words_of_range (range_at ws i) ≡ take 4 (drop i ws)
+  range_exact i h =
       let e : i + 2 + 1 ≡ i + 3 = omega arith in
-      rw (value-exact i, value-exact (i + 2), e, four-words i h)
+      rw (value_exact i, value_exact (i + 2), e, four-words i h)
 
-  ranges-exact : (i f n : ℕ) → i + 4 * f + 4 * n ≤ length ws → wordsOfRanges (rangesFrom ws i f n) ≡ take (4 * n) (drop (i + 4 * f) ws)
-  unfolding rangesFrom
-  ranges-exact i f zero h = refl
-  ranges-exact i f (suc n) h =
+  ranges_exact : (i f n : ℕ) → i + 4 * f + 4 * n ≤ length ws → words_of_ranges (ranges_from ws i f n) ≡ take (4 * n) (drop (i + 4 * f) ws)
+  unfolding ranges_from
+  ranges_exact i f zero h = refl
+  ranges_exact i f (suc n) h =
       let k : 4 * suc n ≡ 4 + 4 * n = omega arith in
       let j : i + 4 * (f + 1) ≡ i + 4 * f + 4 = omega arith in
-      let more : wordsOfRanges (rangesFrom ws i (f + 1) n) ≡ take (4 * n) (drop (i + 4 * f + 4) ws) = rw j at (ranges-exact i (f + 1) n (omega arith)) in
-      ap (λ (l : List ℕ). l ++ wordsOfRanges (rangesFrom ws i (f + 1) n)) (range-exact (i + 4 * f) (omega arith))
+      let more : words_of_ranges (ranges_from ws i (f + 1) n) ≡ take (4 * n) (drop (i + 4 * f + 4) ws) = rw j at (ranges_exact i (f + 1) n (omega arith)) in
+      ap (λ (l : List ℕ). l ++ words_of_ranges (ranges_from ws i (f + 1) n)) (range_exact (i + 4 * f) (omega arith))
       ∙ rw (more, k, take-add, drop-drop)
 
-  pub five-exact : (i : ℕ) → i + rangesWords ≤ length ws → wordsOfRanges (rangesAt ws i) ≡ take rangesWords (drop i ws)
-  five-exact i h =
+  pub five_exact : (i : ℕ) → i + ranges_words ≤ length ws → words_of_ranges (ranges_at ws i) ≡ take ranges_words (drop i ws)
+  five_exact i h =
       let e : i + 4 * 0 ≡ i = omega arith in
-      ap wordsOfRanges (sym (all-ranges ws i)) ∙ ranges-exact i 0 fieldCount (omega arith) ∙ rw e
+      ap words_of_ranges (sym (all_ranges ws i)) ∙ ranges_exact i 0 field_count (omega arith) ∙ rw e

@@ -2,9 +2,9 @@
 pub mod words;
 
 ghost use Rattle.std.specs.Prelude.{◌≡◌, ◌+◌, ◌-◌, ◌^◌, min, ltb, eqb};
-ghost use Rattle.selectors.specs.Range.{range, contains, inField, sameRange, full, opaque, addressSize, protocolSize, portSize};
+ghost use Rattle.selectors.specs.Range.{range, contains, in_field, same_range, full, opaque, address_size, protocol_size, port_size};
 ghost use Rattle.selectors.specs.Value.{number};
-ghost use Rattle.selectors.specs.Ranges.{fromTo, addressRange, protocolRange, portRange, newAddressRange, newProtocolRange, newPortRange};
+ghost use Rattle.selectors.specs.Ranges.{from_to, address_range, protocol_range, port_range, new_address_range, new_protocol_range, new_port_range};
 
 // A value of a field: the number upper * 2^64 + lower.
 #[repr(C)]
@@ -125,7 +125,7 @@ fn within(low: u64, high: u64, value: u64) -> bool
 
 // Ends with the same upper word, as all of IPv4's have, are told by their lower words.
 fn between(low: Value, high: Value, value: Value) -> bool
-    ensures { result ≡ contains (fromTo low high) (number value) }
+    ensures { result ≡ contains (from_to low high) (number value) }
 {
     if low.upper == high.upper {
         if value.upper == low.upper {
@@ -141,7 +141,7 @@ fn between(low: Value, high: Value, value: Value) -> bool
 
 // Whether low is at most high and both are values of the field whose highest value is given.
 fn in_field(low: Value, high: Value, highest: Value) -> bool
-    ensures { result ≡ inField (number highest + 1) (fromTo low high) }
+    ensures { result ≡ in_field (number highest + 1) (from_to low high) }
 {
     if high.less(low) {
         return false;
@@ -150,7 +150,7 @@ fn in_field(low: Value, high: Value, highest: Value) -> bool
 }
 
 fn same_ends(low: Value, high: Value, other_low: Value, other_high: Value) -> bool
-    ensures { result ≡ sameRange (fromTo low high) (fromTo other_low other_high) }
+    ensures { result ≡ same_range (from_to low high) (from_to other_low other_high) }
 {
     if low.same(other_low) {
         return high.same(other_high);
@@ -181,7 +181,7 @@ impl AddressRange {
     };
 
     pub fn new(low: Value, high: Value) -> NewAddressRange
-        ensures { result ≡ newAddressRange low high }
+        ensures { result ≡ new_address_range low high }
     {
         if in_field(low, high, AddressRange::ANY.high) {
             return NewAddressRange::Made(AddressRange { low, high });
@@ -190,14 +190,14 @@ impl AddressRange {
     }
 
     pub fn holds(self, address: Value) -> bool
-        ensures { result ≡ contains (addressRange self) (number address) }
+        ensures { result ≡ contains (address_range self) (number address) }
     {
         between(self.low, self.high, address)
     }
 
     // Whether this is ANY.
     pub fn is_any(self) -> bool
-        ensures { result ≡ sameRange (addressRange self) (full addressSize) }
+        ensures { result ≡ same_range (address_range self) (full address_size) }
     {
         same_ends(
             self.low,
@@ -231,7 +231,7 @@ impl ProtocolRange {
     };
 
     pub fn new(low: Value, high: Value) -> NewProtocolRange
-        ensures { result ≡ newProtocolRange low high }
+        ensures { result ≡ new_protocol_range low high }
     {
         if in_field(low, high, ProtocolRange::ANY.high) {
             return NewProtocolRange::Made(ProtocolRange { low, high });
@@ -240,14 +240,14 @@ impl ProtocolRange {
     }
 
     pub fn holds(self, protocol: Value) -> bool
-        ensures { result ≡ contains (protocolRange self) (number protocol) }
+        ensures { result ≡ contains (protocol_range self) (number protocol) }
     {
         between(self.low, self.high, protocol)
     }
 
     // Whether this is ANY.
     pub fn is_any(self) -> bool
-        ensures { result ≡ sameRange (protocolRange self) (full protocolSize) }
+        ensures { result ≡ same_range (protocol_range self) (full protocol_size) }
     {
         same_ends(
             self.low,
@@ -285,7 +285,7 @@ impl PortRange {
     };
 
     pub fn new(low: Value, high: Value) -> NewPortRange
-        ensures { result ≡ newPortRange low high }
+        ensures { result ≡ new_port_range low high }
     {
         if in_field(low, high, PortRange::ANY.high) {
             return NewPortRange::Made(PortRange { low, high });
@@ -294,21 +294,21 @@ impl PortRange {
     }
 
     pub fn holds(self, port: Value) -> bool
-        ensures { result ≡ contains (portRange self) (number port) }
+        ensures { result ≡ contains (port_range self) (number port) }
     {
         between(self.low, self.high, port)
     }
 
     // Whether this is ANY.
     pub fn is_any(self) -> bool
-        ensures { result ≡ sameRange (portRange self) (full portSize) }
+        ensures { result ≡ same_range (port_range self) (full port_size) }
     {
         same_ends(self.low, self.high, PortRange::ANY.low, PortRange::ANY.high)
     }
 
     // Whether this is OPAQUE.
     pub fn is_opaque(self) -> bool
-        ensures { result ≡ sameRange (portRange self) opaque }
+        ensures { result ≡ same_range (port_range self) opaque }
     {
         same_ends(
             self.low,

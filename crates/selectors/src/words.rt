@@ -3,9 +3,9 @@
 ghost use Rattle.std.specs.Prelude.{◌≡◌, ◌+◌, ◌*◌, ◌≤◌, ◌<◌, leb, length, get_or, set};
 ghost use Rattle.std.proofs.lemmas.List.Edits.{sets};
 ghost use Rattle.selectors.specs.Range.{contains, holds};
-ghost use Rattle.selectors.specs.Ranges.{endsRange, fiveRanges};
+ghost use Rattle.selectors.specs.Ranges.{ends_range, five_ranges};
 ghost use Rattle.selectors.specs.Value.{number};
-ghost use Rattle.selectors.specs.Words.{fieldCount, rangeWords, value_at, ends_at, rangeAt, fiveAt, rangesFrom, valuesFrom, held_at, wordsOfValue, wordsOfRange, wordsOfRanges, wordsOfSelectors, selectorsOf};
+ghost use Rattle.selectors.specs.Words.{field_count, range_words, value_at, ends_at, range_at, five_at, ranges_from, values_from, held_at, words_of_value, words_of_range, words_of_ranges, words_of_selectors, selectors_in};
 
 use crate::{Ends, Ranges, Selectors, Value, between};
 
@@ -99,7 +99,7 @@ pub fn ends_at(words: &[u64], at: usize) -> Ends
 
 // The ends of the ranges of the five fields, from a place on.
 pub fn ranges_at(words: &[u64], at: usize) -> Ranges
-    ensures { result ≡ fiveAt words.now at }
+    ensures { result ≡ five_at words.now at }
 {
     if words.len() <= at {
         return NO_RANGES;
@@ -116,7 +116,7 @@ pub fn ranges_at(words: &[u64], at: usize) -> Ranges
 // Whether a range whose words are there holds a value.
 fn range_in(words: &[u64], at: usize, value: Value) -> bool
     requires { at + 4 ≤ length words.now }
-    ensures { result ≡ contains (rangeAt words.now at) (number value) }
+    ensures { result ≡ contains (range_at words.now at) (number value) }
 {
     let low = value_in(words, at);
     let high = value_in(words, at + VALUE_WORDS);
@@ -125,14 +125,14 @@ fn range_in(words: &[u64], at: usize, value: Value) -> bool
 
 // Whether the range of the four words from a place on holds a value.
 pub fn range_holds(words: &[u64], at: usize, value: Value) -> bool
-    ensures { result ≡ contains (rangeAt words.now at) (number value) }
+    ensures { result ≡ contains (range_at words.now at) (number value) }
 {
     let ends = ends_at(words, at);
     between(ends.low, ends.high, value)
 }
 
 fn value_of(values: &[u64; SELECTOR_WORDS], field: usize) -> Value
-    requires { field < fieldCount }
+    requires { field < field_count }
     ensures { result ≡ value_at values.now (2 * field) }
 {
     let at = 2 * field;
@@ -144,8 +144,8 @@ fn value_of(values: &[u64; SELECTOR_WORDS], field: usize) -> Value
 
 // Whether ranges whose words are there hold the values of the first fields.
 fn all_hold(words: &[u64], at: usize, values: &[u64; SELECTOR_WORDS], fields: usize) -> bool
-    requires { (fields ≤ fieldCount) × (at + rangeWords * fields ≤ length words.now) }
-    ensures { result ≡ holds (rangesFrom words.now at 0 fields) (valuesFrom values.now 0 fields) }
+    requires { (fields ≤ field_count) × (at + range_words * fields ≤ length words.now) }
+    ensures { result ≡ holds (ranges_from words.now at 0 fields) (values_from values.now 0 fields) }
 {
     let mut f: usize = 0;
     while f < fields {
@@ -172,7 +172,7 @@ pub fn ranges_hold(words: &[u64], at: usize, values: &[u64; SELECTOR_WORDS], fie
 
 // Five values as words: lent to the test of each row, they are not copied.
 pub fn selector_words(selectors: Selectors) -> [u64; SELECTOR_WORDS]
-    ensures { result ≡ wordsOfSelectors selectors }
+    ensures { result ≡ words_of_selectors selectors }
 {
     [
         selectors.local.upper,
@@ -190,7 +190,7 @@ pub fn selector_words(selectors: Selectors) -> [u64; SELECTOR_WORDS]
 
 // The five values of words.
 pub fn selectors_of(words: &[u64; SELECTOR_WORDS]) -> Selectors
-    ensures { result ≡ selectorsOf words.now }
+    ensures { result ≡ selectors_in words.now }
 {
     Selectors {
         local: value_of(words, 0),
@@ -213,7 +213,7 @@ pub fn put_word(words: &mut [u64], at: usize, word: u64)
 
 // Writes a value's words from a place on.
 pub fn put_value(words: &mut [u64], at: usize, value: Value)
-    ensures { words.new ≡ sets words.old at (wordsOfValue (number value)) }
+    ensures { words.new ≡ sets words.old at (words_of_value (number value)) }
 {
     if words.len() <= at {
         return;
@@ -227,7 +227,7 @@ pub fn put_value(words: &mut [u64], at: usize, value: Value)
 
 // Writes a range's words from a place on.
 pub fn put_ends(words: &mut [u64], at: usize, ends: Ends)
-    ensures { words.new ≡ sets words.old at (wordsOfRange (endsRange ends)) }
+    ensures { words.new ≡ sets words.old at (words_of_range (ends_range ends)) }
 {
     if words.len() <= at {
         return;
@@ -238,7 +238,7 @@ pub fn put_ends(words: &mut [u64], at: usize, ends: Ends)
 
 // Writes the words of five ranges from a place on.
 pub fn put_ranges(words: &mut [u64], at: usize, ranges: Ranges)
-    ensures { words.new ≡ sets words.old at (wordsOfRanges (fiveRanges ranges)) }
+    ensures { words.new ≡ sets words.old at (words_of_ranges (five_ranges ranges)) }
 {
     if words.len() <= at {
         return;

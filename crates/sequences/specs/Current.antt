@@ -4,151 +4,151 @@ use Rattle.std.specs.Prelude.{ℕ, ◌+◌, ◌%◌, cond, List, [], ◌∷◌, 
 use Rattle.std.proofs.Math.Option.{Option, none, some}
 use Rattle.selectors.specs.declared.Direction.{Direction}
 use Rattle.selectors.specs.declared.Direction.TheVariants.{Out, In}
-use Rattle.packet.specs.Read.{readPacket}
+use Rattle.packet.specs.Read.{read_packet}
 use Rattle.packet.specs.Header.{Bytes}
 use Rattle.packet.specs.declared.Reading.{Reading}
 use Rattle.packet.specs.declared.Reading.TheVariants.{Readable, Unreadable}
-use Rattle.policy.specs.Policy.{PolicyRow, matches, orderedSearch, bothWays}
-use Rattle.policy_text.specs.Editions.{Rules, Policy, refused, rows, parsePolicy}
+use Rattle.policy.specs.Policy.{PolicyRow, matches, ordered_search, for_both_ways}
+use Rattle.policy_text.specs.Editions.{Rules, Policy, refused, rows, parse_policy}
 use Rattle.decorrelate.specs.Form.{form}
-use Rattle.spd_cache.specs.Cache.{slotCount, replaced}
-use Rattle.acceptance.specs.Spd.{noRules, accepting, ifAccepted}
+use Rattle.spd_cache.specs.Cache.{slot_count, replaced}
+use Rattle.acceptance.specs.Spd.{no_rules, accepting, if_accepted}
 use Rattle.sad.specs.declared.NewPair.{NewPair}
 use Rattle.sad.specs.declared.Outcome.{Outcome}
 use Rattle.sad.specs.declared.Outcome.TheVariants.{Done, ReservedSpi, AlreadyLive, TableFull, BadPair, NothingToRemove}
-use Rattle.sad.specs.Pairs.{Pair, named, addOutcome, removeOutcome, newPair}
-use Rattle.verdicts.specs.Calls.{shows, forGateway, outboundBy, inboundBy, fromSaBy}
-use Rattle.sequences.specs.Sequence.{Call, policy, add, remove, outbound, inbound, fromSa, Answer, forPolicy, forPair, forPacket}
+use Rattle.sad.specs.Pairs.{Pair, named, add_outcome, remove_outcome, new_pair}
+use Rattle.verdicts.specs.Calls.{shows, for_gateway, outbound_by, inbound_by, from_sa_by}
+use Rattle.sequences.specs.Sequence.{Call, policy, add, remove, outbound, inbound, comes_from_sa, Answer, for_policy, for_pair, for_packet}
 
 -- The rules of a file that is accepted: one that 23, 24, 21, 20 and 22 let through.
-abbrev pub acceptedRows : ℕ → Policy → Option Rules
-acceptedRows limit (refused p) = none
-acceptedRows limit (rows rs) = ifAccepted (accepting limit (rows rs)) (some rs) none
+abbrev pub accepted_rows : ℕ → Policy → Option Rules
+accepted_rows limit (refused p) = none
+accepted_rows limit (rows rs) = if_accepted (accepting limit (rows rs)) (some rs) none
 
 abbrev pub accepts : ℕ → Call → Option Rules
-accepts limit (policy s) = acceptedRows limit (parsePolicy limit s)
+accepts limit (policy s) = accepted_rows limit (parse_policy limit s)
 accepts limit (add p) = none
 accepts limit (remove protocol spi) = none
 accepts limit (outbound p) = none
 accepts limit (inbound p) = none
-accepts limit (fromSa protocol spi p) = none
+accepts limit (comes_from_sa protocol spi p) = none
 
 -- The current policy: the rules of the last accepted file.
 abbrev pub instead : {A : Type 0} → A → Option A → A
 instead a none = a
 instead a (some b) = b
 
-unfoldable pub currentFrom : ℕ → Rules → List Call → Rules
-currentFrom limit rs [] = rs
-currentFrom limit rs (c ∷ cs) = currentFrom limit (instead rs (accepts limit c)) cs
+unfoldable pub current_from : ℕ → Rules → List Call → Rules
+current_from limit rs [] = rs
+current_from limit rs (c ∷ cs) = current_from limit (instead rs (accepts limit c)) cs
 
 -- 'The policy without rows' at first.
 abbrev pub current : ℕ → List Call → Rules
-current limit cs = currentFrom limit noRules cs
+current limit cs = current_from limit no_rules cs
 
 -- The live pairs: each that was added, and was not removed since. A refusal changes nothing.
-abbrev pub addedTo : List Pair → NewPair → Outcome → List Pair
-addedTo qs p Done = newPair p ∷ qs
-addedTo qs p ReservedSpi = qs
-addedTo qs p AlreadyLive = qs
-addedTo qs p TableFull = qs
-addedTo qs p BadPair = qs
-addedTo qs p NothingToRemove = qs
+abbrev pub added_to : List Pair → NewPair → Outcome → List Pair
+added_to qs p Done = new_pair p ∷ qs
+added_to qs p ReservedSpi = qs
+added_to qs p AlreadyLive = qs
+added_to qs p TableFull = qs
+added_to qs p BadPair = qs
+added_to qs p NothingToRemove = qs
 
 unfoldable pub without : ℕ → ℕ → List Pair → List Pair
 without protocol spi [] = []
 without protocol spi (q ∷ qs) = cond (named protocol spi q) (without protocol spi qs) (q ∷ without protocol spi qs)
 
-abbrev pub pairsThen : List Pair → Call → List Pair
-pairsThen qs (policy s) = qs
-pairsThen qs (add p) = addedTo qs p (addOutcome qs p)
-pairsThen qs (remove protocol spi) = without protocol spi qs
-pairsThen qs (outbound p) = qs
-pairsThen qs (inbound p) = qs
-pairsThen qs (fromSa protocol spi p) = qs
+abbrev pub pairs_then : List Pair → Call → List Pair
+pairs_then qs (policy s) = qs
+pairs_then qs (add p) = added_to qs p (add_outcome qs p)
+pairs_then qs (remove protocol spi) = without protocol spi qs
+pairs_then qs (outbound p) = qs
+pairs_then qs (inbound p) = qs
+pairs_then qs (comes_from_sa protocol spi p) = qs
 
-unfoldable pub pairsFrom : List Pair → List Call → List Pair
-pairsFrom qs [] = qs
-pairsFrom qs (c ∷ cs) = pairsFrom (pairsThen qs c) cs
+unfoldable pub pairs_from : List Pair → List Call → List Pair
+pairs_from qs [] = qs
+pairs_from qs (c ∷ cs) = pairs_from (pairs_then qs c) cs
 
 -- 'No pair' at first.
-abbrev pub livePairs : List Call → List Pair
-livePairs cs = pairsFrom [] cs
+abbrev pub live_pairs : List Call → List Pair
+live_pairs cs = pairs_from [] cs
 
 -- The values that a call searches in a direction, where it does: 'used by the one door that searches that way'.
-abbrev pub shownOut : Reading → Option (List ℕ)
-shownOut (Readable k) = some (shows k)
-shownOut Unreadable = none
+abbrev pub shown_out : Reading → Option (List ℕ)
+shown_out (Readable k) = some (shows k)
+shown_out Unreadable = none
 
 -- AH or ESP for the gateway is not searched.
-abbrev pub shownIn : ℕ → Reading → Option (List ℕ)
-shownIn address (Readable k) = cond (forGateway address k) none (some (shows k))
-shownIn address Unreadable = none
+abbrev pub shown_in : ℕ → Reading → Option (List ℕ)
+shown_in address (Readable k) = cond (for_gateway address k) none (some (shows k))
+shown_in address Unreadable = none
 
 abbrev pub searched : Direction → ℕ → Call → Option (List ℕ)
-searched Out address (outbound p) = shownOut (readPacket Out p)
-searched In address (inbound p) = shownIn address (readPacket In p)
+searched Out address (outbound p) = shown_out (read_packet Out p)
+searched In address (inbound p) = shown_in address (read_packet In p)
 searched Out address (policy s) = none
 searched Out address (add p) = none
 searched Out address (remove protocol spi) = none
 searched Out address (inbound p) = none
-searched Out address (fromSa protocol spi p) = none
+searched Out address (comes_from_sa protocol spi p) = none
 searched In address (policy s) = none
 searched In address (add p) = none
 searched In address (remove protocol spi) = none
 searched In address (outbound p) = none
-searched In address (fromSa protocol spi p) = none
+searched In address (comes_from_sa protocol spi p) = none
 
 -- The slots of a cache: the rows in use, and the slot whose turn it is.
 pub record Slots : Type 0 where
   pub taken : List PolicyRow
   pub turn : ℕ
 
-abbrev pub noSlots : Slots
-noSlots = record { taken = []; turn = 0 }
+abbrev pub no_slots : Slots
+no_slots = record { taken = []; turn = 0 }
 
 -- The first of some rows that matches.
-unfoldable pub firstRow : Direction → List PolicyRow → List ℕ → Option PolicyRow
-firstRow d [] vs = none
-firstRow d (r ∷ rs) vs = cond (matches d r vs) (some r) (firstRow d rs vs)
+unfoldable pub first_row : Direction → List PolicyRow → List ℕ → Option PolicyRow
+first_row d [] vs = none
+first_row d (r ∷ rs) vs = cond (matches d r vs) (some r) (first_row d rs vs)
 
 -- 'A hit changes nothing. A miss that finds a row writes it to the slot whose turn it is, and the turn moves on, round after 32. A miss
 -- without a row changes nothing.'
-abbrev pub missedSlots : Slots → Option PolicyRow → Slots
-missedSlots s none = s
-missedSlots s (some r) = record { taken = replaced s.taken s.turn r; turn = (s.turn + 1) % slotCount }
+abbrev pub missed_slots : Slots → Option PolicyRow → Slots
+missed_slots s none = s
+missed_slots s (some r) = record { taken = replaced s.taken s.turn r; turn = (s.turn + 1) % slot_count }
 
-abbrev pub triedSlots : Slots → Option PolicyRow → Option PolicyRow → Slots
-triedSlots s (some hit) found = s
-triedSlots s none found = missedSlots s found
+abbrev pub tried_slots : Slots → Option PolicyRow → Option PolicyRow → Slots
+tried_slots s (some hit) found = s
+tried_slots s none found = missed_slots s found
 
 -- A search of values under a policy: the row that a miss finds is one of the normal form's.
-abbrev pub slotsSearched : Direction → Rules → Slots → Option (List ℕ) → Slots
-slotsSearched d rs s none = s
-slotsSearched d rs s (some vs) = triedSlots s (firstRow d s.taken vs) (firstRow d (map bothWays (form d rs)) vs)
+abbrev pub slots_searched : Direction → Rules → Slots → Option (List ℕ) → Slots
+slots_searched d rs s none = s
+slots_searched d rs s (some vs) = tried_slots s (first_row d s.taken vs) (first_row d (map for_both_ways (form d rs)) vs)
 
 -- 'An accepted policy empties both caches, sets both turns to the first slot.'
-abbrev pub slotsOr : Slots → Option Rules → Slots
-slotsOr s none = s
-slotsOr s (some rs) = noSlots
+abbrev pub slots_or : Slots → Option Rules → Slots
+slots_or s none = s
+slots_or s (some rs) = no_slots
 
 -- The slots after a sequence of calls on a gateway with this address, from a policy and slots on.
-unfoldable pub slotsFrom : ℕ → Direction → ℕ → Rules → Slots → List Call → Slots
-slotsFrom limit d address rs s [] = s
-slotsFrom limit d address rs s (c ∷ cs) =
-    slotsFrom limit d address (instead rs (accepts limit c)) (slotsOr (slotsSearched d rs s (searched d address c)) (accepts limit c)) cs
+unfoldable pub slots_from : ℕ → Direction → ℕ → Rules → Slots → List Call → Slots
+slots_from limit d address rs s [] = s
+slots_from limit d address rs s (c ∷ cs) =
+    slots_from limit d address (instead rs (accepts limit c)) (slots_or (slots_searched d rs s (searched d address c)) (accepts limit c)) cs
 
 abbrev pub slots : ℕ → Direction → ℕ → List Call → Slots
-slots limit d address cs = slotsFrom limit d address noRules noSlots cs
+slots limit d address cs = slots_from limit d address no_rules no_slots cs
 
 -- The answer to a call by document 01's rules, from the gateway's address, the current policy and the live pairs.
 abbrev pub ruled : ℕ → ℕ → Rules → List Pair → Call → Answer
-ruled limit address rs qs (policy s) = forPolicy (accepting limit (parsePolicy limit s))
-ruled limit address rs qs (add p) = forPair (addOutcome qs p)
-ruled limit address rs qs (remove protocol spi) = forPair (removeOutcome qs protocol spi)
-ruled limit address rs qs (outbound p) = forPacket (outboundBy (orderedSearch Out rs.entries) qs p)
-ruled limit address rs qs (inbound p) = forPacket (inboundBy (orderedSearch In rs.entries) address qs p)
-ruled limit address rs qs (fromSa protocol spi p) = forPacket (fromSaBy protocol spi qs p)
+ruled limit address rs qs (policy s) = for_policy (accepting limit (parse_policy limit s))
+ruled limit address rs qs (add p) = for_pair (add_outcome qs p)
+ruled limit address rs qs (remove protocol spi) = for_pair (remove_outcome qs protocol spi)
+ruled limit address rs qs (outbound p) = for_packet (outbound_by (ordered_search Out rs.entries) qs p)
+ruled limit address rs qs (inbound p) = for_packet (inbound_by (ordered_search In rs.entries) address qs p)
+ruled limit address rs qs (comes_from_sa protocol spi p) = for_packet (from_sa_by protocol spi qs p)
 
 -- A packet that is searched is made of bytes, as every lent packet is.
 abbrev pub OfBytes : Call → Type 0
@@ -157,4 +157,4 @@ OfBytes (add p) = Unit
 OfBytes (remove protocol spi) = Unit
 OfBytes (outbound p) = Bytes p
 OfBytes (inbound p) = Bytes p
-OfBytes (fromSa protocol spi p) = Unit
+OfBytes (comes_from_sa protocol spi p) = Unit

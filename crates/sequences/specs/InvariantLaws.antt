@@ -8,73 +8,73 @@ use Rattle.std.proofs.Math.Option.{Option, none, some}
 use Rattle.std.proofs.lemmas.List.{length-replicate}
 use Rattle.selectors.specs.declared.Direction.{Direction}
 use Rattle.selectors.specs.declared.Direction.TheVariants.{Out, In}
-use Rattle.packet.specs.Read.{readPacket}
+use Rattle.packet.specs.Read.{read_packet}
 use Rattle.packet.specs.declared.Reading.{Reading}
 use Rattle.packet.specs.declared.Reading.TheVariants.{Readable, Unreadable}
-use Rattle.policy.specs.Policy.{PolicyRow, bothWays}
-use Rattle.policy.specs.Words.{policyRows}
-use Rattle.policy_text.specs.Editions.{Rules, Policy, refused, rows, parsePolicy}
+use Rattle.policy.specs.Policy.{PolicyRow, for_both_ways}
+use Rattle.policy.specs.Words.{policy_rows}
+use Rattle.policy_text.specs.Editions.{Rules, Policy, refused, rows, parse_policy}
 use Rattle.decorrelate.specs.Form.{form}
-use Rattle.decorrelate.specs.FormLaws.{form-words-rows}
+use Rattle.decorrelate.specs.FormLaws.{form_words_rows}
 use Rattle.spd_cache.specs.declared.Cache.{Cache}
-use Rattle.spd_cache.specs.Cache.{cached, emptyCache, lookedUp}
-use Rattle.spd_cache.specs.SlotLaws.{Filled, empty-filled, empty-cached, lookup-filled, lookup-mem}
+use Rattle.spd_cache.specs.Cache.{cached, empty_cache, looked_up}
+use Rattle.spd_cache.specs.SlotLaws.{Filled, empty_filled, empty-cached, lookup_filled, lookup_mem}
 use Rattle.acceptance.specs.declared.Acceptance.{Acceptance}
 use Rattle.acceptance.specs.declared.Acceptance.TheVariants.{Accepted, Refused, TooLarge}
 use Rattle.acceptance.specs.declared.Caches.{Caches}
-use Rattle.acceptance.specs.Spd.{noRules, spdWords, spdAfter, emptyCaches, cachesAfter, accepting, ifAccepted}
+use Rattle.acceptance.specs.Spd.{no_rules, spd_words, spd_after, empty_caches, caches_after, accepting, if_accepted}
 use Rattle.spd.specs.Words.{address_of, rows_of}
-use Rattle.acceptance.specs.SpdLaws.{Within, empty-within, within_more, accepted-exactly, spd-rows}
-use Rattle.sad.specs.Pairs.{placeCount, placeWords}
-use Rattle.sad.specs.TableLaws.{size-after-add, size-after-remove}
-use Rattle.verdicts.specs.Calls.{shows, forGateway}
-use Rattle.gateway.specs.Cached.{outboundCache, outboundCached, inboundCache, inboundCached}
-use Rattle.sequences.specs.Sequence.{Gateway, Call, policy, add, remove, outbound, inbound, fromSa, fresh, after, run}
-use Rattle.sequences.specs.Current.{acceptedRows, accepts, instead, searched, shownOut, shownIn, currentFrom, current}
+use Rattle.acceptance.specs.SpdLaws.{Within, empty_within, within_more, accepted_exactly, spd_rows}
+use Rattle.sad.specs.Pairs.{place_count, place_words}
+use Rattle.sad.specs.TableLaws.{size-after_add, size-after_remove}
+use Rattle.verdicts.specs.Calls.{shows, for_gateway}
+use Rattle.gateway.specs.Cached.{outbound_cache, outbound_cached, inbound_cache, inbound_cached}
+use Rattle.sequences.specs.Sequence.{Gateway, Call, policy, add, remove, outbound, inbound, comes_from_sa, fresh, after, run}
+use Rattle.sequences.specs.Current.{accepted_rows, accepts, instead, searched, shown_out, shown_in, current_from, current}
 
 -- The cache of a direction, and after a search of values.
-abbrev pub cacheOf : Direction → Caches → Cache
-cacheOf Out c = c.outbound
-cacheOf In c = c.inbound
+abbrev pub cache_of : Direction → Caches → Cache
+cache_of Out c = c.outbound
+cache_of In c = c.inbound
 
-abbrev pub cacheSearched : Direction → List ℕ → Cache → Option (List ℕ) → Cache
-cacheSearched d ws c none = c
-cacheSearched d ws c (some vs) = (lookedUp c ws d vs).cache
+abbrev pub cache_searched : Direction → List ℕ → Cache → Option (List ℕ) → Cache
+cache_searched d ws c none = c
+cache_searched d ws c (some vs) = (looked_up c ws d vs).cache
 
 -- The words and the caches after a policy file, by the rows that are accepted.
-abbrev spdOr : ℕ → List ℕ → Option Rules → List ℕ
-spdOr capacity ws none = ws
-spdOr capacity ws (some rs) = spdWords capacity (address_of ws) rs
+abbrev spd_or : ℕ → List ℕ → Option Rules → List ℕ
+spd_or capacity ws none = ws
+spd_or capacity ws (some rs) = spd_words capacity (address_of ws) rs
 
-abbrev cachesOr : Caches → Option Rules → Caches
-cachesOr c none = c
-cachesOr c (some rs) = emptyCaches
+abbrev caches_or : Caches → Option Rules → Caches
+caches_or c none = c
+caches_or c (some rs) = empty_caches
 
 -- What is taken where a policy is accepted, by whether rows are.
 if-accepted : {A : Type 0} (new old : A) (take : Option Rules → A) (rs : Rules) → take (some rs) ≡ new → take none ≡ old
-    → (a : Acceptance) → ifAccepted a new old ≡ take (ifAccepted a (some rs) none)
+    → (a : Acceptance) → if_accepted a new old ≡ take (if_accepted a (some rs) none)
 if-accepted new old take rs p q Accepted = sym p
 if-accepted new old take rs p q (Refused r) = sym q
 if-accepted new old take rs p q (TooLarge d) = sym q
 
-spd-settled : (capacity limit : ℕ) (ws : List ℕ) (f : Policy) → spdAfter capacity limit ws f ≡ spdOr capacity ws (acceptedRows limit f)
+spd-settled : (capacity limit : ℕ) (ws : List ℕ) (f : Policy) → spd_after capacity limit ws f ≡ spd_or capacity ws (accepted_rows limit f)
 spd-settled capacity limit ws (refused p) = refl
 spd-settled capacity limit ws (rows rs) =
-    if-accepted (spdWords capacity (address_of ws) rs) ws (spdOr capacity ws) rs refl refl (accepting limit (rows rs))
+    if-accepted (spd_words capacity (address_of ws) rs) ws (spd_or capacity ws) rs refl refl (accepting limit (rows rs))
 
-caches-settled : (limit : ℕ) (c : Caches) (f : Policy) → cachesAfter limit c f ≡ cachesOr c (acceptedRows limit f)
+caches-settled : (limit : ℕ) (c : Caches) (f : Policy) → caches_after limit c f ≡ caches_or c (accepted_rows limit f)
 caches-settled limit c (refused r) = refl
-caches-settled limit c (rows rs) = if-accepted emptyCaches c (cachesOr c) rs refl refl (accepting limit (rows rs))
+caches-settled limit c (rows rs) = if-accepted empty_caches c (caches_or c) rs refl refl (accepting limit (rows rs))
 
 none≢some : (rs : Rules) → ◌≡◌ {A = Option Rules} none (some rs) → ⊥
 none≢some rs e = let z : ◌≡◌ {A = ℕ} 0 1 = cc in omega arith
 
-accepted-within : (limit : ℕ) (f : Policy) (rs : Rules) → acceptedRows limit f ≡ some rs → Within limit rs
-accepted-within limit (refused p) rs e = absurd (none≢some rs e)
-accepted-within limit (rows qs) rs e = by (accepting limit (rows qs)) refl e
+accepted_within : (limit : ℕ) (f : Policy) (rs : Rules) → accepted_rows limit f ≡ some rs → Within limit rs
+accepted_within limit (refused p) rs e = absurd (none≢some rs e)
+accepted_within limit (rows qs) rs e = by (accepting limit (rows qs)) refl e
   where
-    by : (a : Acceptance) → accepting limit (rows qs) ≡ a → ifAccepted a (some qs) none ≡ some rs → Within limit rs
-    by Accepted g h = let same : qs ≡ rs = cc in subst (Within limit) same ((accepted-exactly limit qs).0 g)
+    by : (a : Acceptance) → accepting limit (rows qs) ≡ a → if_accepted a (some qs) none ≡ some rs → Within limit rs
+    by Accepted g h = let same : qs ≡ rs = cc in subst (Within limit) same ((accepted_exactly limit qs).0 g)
     by (Refused r) g h = absurd (none≢some rs h)
     by (TooLarge d) g h = absurd (none≢some rs h)
 
@@ -82,114 +82,114 @@ accepted-within limit (rows qs) rs e = by (accepting limit (rows qs)) refl e
 -- is one of the normal form's.
 pub record Holding (d : Direction) (rs : Rules) (c : Cache) : Type 0 where
   pub filled : Filled c
-  pub rows-of : (r : PolicyRow) → Memᴰ r (cached c) → Memᴰ r (map bothWays (form d rs))
+  pub rows-of : (r : PolicyRow) → Memᴰ r (cached c) → Memᴰ r (map for_both_ways (form d rs))
 
-empty-holding : (d : Direction) (rs : Rules) → Holding d rs emptyCache
-empty-holding d rs = record { filled = empty-filled; rows-of = λ r m. absurd (Memᴰ.not-nil (rw empty-cached at m)) }
+empty_holding : (d : Direction) (rs : Rules) → Holding d rs empty_cache
+empty_holding d rs = record { filled = empty_filled; rows-of = λ r m. absurd (Memᴰ.not-nil (rw empty-cached at m)) }
 
-module _ (d : Direction) (rs : Rules) (ws : List ℕ) (is : policyRows ws ≡ map bothWays (form d rs)) where
-  search-holding : (c : Cache) → Holding d rs c → (o : Option (List ℕ)) → Holding d rs (cacheSearched d ws c o)
-  search-holding c h none = h
-  search-holding c h (some vs) =
+module _ (d : Direction) (rs : Rules) (ws : List ℕ) (is : policy_rows ws ≡ map for_both_ways (form d rs)) where
+  search_holding : (c : Cache) → Holding d rs c → (o : Option (List ℕ)) → Holding d rs (cache_searched d ws c o)
+  search_holding c h none = h
+  search_holding c h (some vs) =
       record {
-        filled = lookup-filled c ws d vs h.filled;
-        rows-of = λ r m. ⊎_elim (h.rows-of r) (λ q. rw is at q) (lookup-mem c ws d vs h.filled r m);
+        filled = lookup_filled c ws d vs h.filled;
+        rows-of = λ r m. ⊎_elim (h.rows-of r) (λ q. rw is at q) (lookup_mem c ws d vs h.filled r m);
       }
 
 -- A gateway with this address, when these rules are the current policy.
 pub record Sound (capacity limit address : ℕ) (rs : Rules) (g : Gateway) : Type 0 where
-  pub policy-words : g.spd ≡ spdWords capacity address rs
+  pub policy-words : g.spd ≡ spd_words capacity address rs
   pub within : Within limit rs
-  pub pair-words : length g.sad ≡ placeCount * placeWords
-  pub holding : (d : Direction) → Holding d rs (cacheOf d g.caches)
+  pub pair-words : length g.sad ≡ place_count * place_words
+  pub holding : (d : Direction) → Holding d rs (cache_of d g.caches)
 
-pub fresh-sound : (capacity limit address : ℕ) → Sound capacity limit address noRules (fresh capacity address)
-fresh-sound capacity limit address =
+pub fresh_sound : (capacity limit address : ℕ) → Sound capacity limit address no_rules (fresh capacity address)
+fresh_sound capacity limit address =
     record {
       policy-words = refl;
-      within = empty-within limit;
-      pair-words = length-replicate {A = ℕ} (placeCount * placeWords) 0;
-      holding = empty-each;
+      within = empty_within limit;
+      pair-words = length-replicate {A = ℕ} (place_count * place_words) 0;
+      holding = empty_each;
     }
   where
-    empty-each : (d : Direction) → Holding d noRules (cacheOf d emptyCaches)
-    empty-each Out = empty-holding Out noRules
-    empty-each In = empty-holding In noRules
+    empty_each : (d : Direction) → Holding d no_rules (cache_of d empty_caches)
+    empty_each Out = empty_holding Out no_rules
+    empty_each In = empty_holding In no_rules
 
 -- The caches after a packet: what it searches.
-out-cache : (c : Cache) (ws : List ℕ) (a : ℕ) (q : _) (p : List ℕ) → (outboundCached c ws q p).cache ≡ cacheSearched Out ws c (searched Out a (outbound p))
-unfolding outboundCached
-out-cache c ws a q p = by (readPacket Out p)
+out_cache : (c : Cache) (ws : List ℕ) (a : ℕ) (q : _) (p : List ℕ) → (outbound_cached c ws q p).cache ≡ cache_searched Out ws c (searched Out a (outbound p))
+unfolding outbound_cached
+out_cache c ws a q p = by (read_packet Out p)
   where
-    by : (r : Reading) → outboundCache c ws r ≡ cacheSearched Out ws c (shownOut r)
+    by : (r : Reading) → outbound_cache c ws r ≡ cache_searched Out ws c (shown_out r)
     by (Readable k) = refl
     by Unreadable = refl
 
-in-cache : (c : Cache) (ws : List ℕ) (a : ℕ) (q : _) (p : List ℕ) → (inboundCached c ws a q p).cache ≡ cacheSearched In ws c (searched In a (inbound p))
-unfolding inboundCached
-in-cache c ws a q p = by (readPacket In p)
+in_cache : (c : Cache) (ws : List ℕ) (a : ℕ) (q : _) (p : List ℕ) → (inbound_cached c ws a q p).cache ≡ cache_searched In ws c (searched In a (inbound p))
+unfolding inbound_cached
+in_cache c ws a q p = by (read_packet In p)
   where
-    for : (b : Bool) (vs : List ℕ) → cond b c (lookedUp c ws In vs).cache ≡ cacheSearched In ws c (cond b none (some vs))
+    for : (b : Bool) (vs : List ℕ) → cond b c (looked_up c ws In vs).cache ≡ cache_searched In ws c (cond b none (some vs))
     for true vs = refl
     for false vs = refl
 
-    by : (r : Reading) → inboundCache c ws a r ≡ cacheSearched In ws c (shownIn a r)
-    by (Readable k) = for (forGateway a k) (shows k)
+    by : (r : Reading) → inbound_cache c ws a r ≡ cache_searched In ws c (shown_in a r)
+    by (Readable k) = for (for_gateway a k) (shows k)
     by Unreadable = refl
 
 -- The policy words and the caches after any call, by what it accepts and what it searches.
-abbrev pub cacheOr : Cache → Option Rules → Cache
-cacheOr c none = c
-cacheOr c (some rs) = emptyCache
+abbrev pub cache_or : Cache → Option Rules → Cache
+cache_or c none = c
+cache_or c (some rs) = empty_cache
 
-caches-each : (d : Direction) (c : Caches) (o : Option Rules) → cacheOf d (cachesOr c o) ≡ cacheOr (cacheOf d c) o
-caches-each Out c none = refl
-caches-each Out c (some rs) = refl
-caches-each In c none = refl
-caches-each In c (some rs) = refl
+caches_each : (d : Direction) (c : Caches) (o : Option Rules) → cache_of d (caches_or c o) ≡ cache_or (cache_of d c) o
+caches_each Out c none = refl
+caches_each Out c (some rs) = refl
+caches_each In c none = refl
+caches_each In c (some rs) = refl
 
 module _ (capacity limit : ℕ) where
-  pub spd-after : (g : Gateway) (c : Call) → (after capacity limit g c).spd ≡ spdOr capacity g.spd (accepts limit c)
+  pub spd-after : (g : Gateway) (c : Call) → (after capacity limit g c).spd ≡ spd_or capacity g.spd (accepts limit c)
   unfolding after
-  spd-after g (policy s) = spd-settled capacity limit g.spd (parsePolicy limit s)
+  spd-after g (policy s) = spd-settled capacity limit g.spd (parse_policy limit s)
   spd-after g (add p) = refl
   spd-after g (remove protocol spi) = refl
   spd-after g (outbound p) = refl
   spd-after g (inbound p) = refl
-  spd-after g (fromSa protocol spi p) = refl
+  spd-after g (comes_from_sa protocol spi p) = refl
 
   pub cache-after : (d : Direction) (g : Gateway) (c : Call)
-      → cacheOf d (after capacity limit g c).caches ≡ cacheOr (cacheSearched d (rows_of capacity g.spd d) (cacheOf d g.caches) (searched d (address_of g.spd) c)) (accepts limit c)
+      → cache_of d (after capacity limit g c).caches ≡ cache_or (cache_searched d (rows_of capacity g.spd d) (cache_of d g.caches) (searched d (address_of g.spd) c)) (accepts limit c)
   unfolding after
-  cache-after Out g (policy s) = ap (cacheOf Out) (caches-settled limit g.caches (parsePolicy limit s)) ∙ caches-each Out g.caches (acceptedRows limit (parsePolicy limit s))
-  cache-after In g (policy s) = ap (cacheOf In) (caches-settled limit g.caches (parsePolicy limit s)) ∙ caches-each In g.caches (acceptedRows limit (parsePolicy limit s))
-  cache-after Out g (outbound p) = out-cache g.caches.outbound (rows_of capacity g.spd Out) (address_of g.spd) _ p
-  cache-after In g (inbound p) = in-cache g.caches.inbound (rows_of capacity g.spd In) (address_of g.spd) _ p
+  cache-after Out g (policy s) = ap (cache_of Out) (caches-settled limit g.caches (parse_policy limit s)) ∙ caches_each Out g.caches (accepted_rows limit (parse_policy limit s))
+  cache-after In g (policy s) = ap (cache_of In) (caches-settled limit g.caches (parse_policy limit s)) ∙ caches_each In g.caches (accepted_rows limit (parse_policy limit s))
+  cache-after Out g (outbound p) = out_cache g.caches.outbound (rows_of capacity g.spd Out) (address_of g.spd) _ p
+  cache-after In g (inbound p) = in_cache g.caches.inbound (rows_of capacity g.spd In) (address_of g.spd) _ p
   cache-after Out g (add p) = refl
   cache-after Out g (remove protocol spi) = refl
   cache-after Out g (inbound p) = refl
-  cache-after Out g (fromSa protocol spi p) = refl
+  cache-after Out g (comes_from_sa protocol spi p) = refl
   cache-after In g (add p) = refl
   cache-after In g (remove protocol spi) = refl
   cache-after In g (outbound p) = refl
-  cache-after In g (fromSa protocol spi p) = refl
+  cache-after In g (comes_from_sa protocol spi p) = refl
 
-  pub pair-words-after : (g : Gateway) (c : Call) → length g.sad ≡ placeCount * placeWords → length (after capacity limit g c).sad ≡ placeCount * placeWords
+  pub pair_words-after : (g : Gateway) (c : Call) → length g.sad ≡ place_count * place_words → length (after capacity limit g c).sad ≡ place_count * place_words
   unfolding after
-  pair-words-after g (policy s) h = h
-  pair-words-after g (add p) h = size-after-add g.sad p h
-  pair-words-after g (remove protocol spi) h = size-after-remove g.sad protocol spi h
-  pair-words-after g (outbound p) h = h
-  pair-words-after g (inbound p) h = h
-  pair-words-after g (fromSa protocol spi p) h = h
+  pair_words-after g (policy s) h = h
+  pair_words-after g (add p) h = size-after_add g.sad p h
+  pair_words-after g (remove protocol spi) h = size-after_remove g.sad protocol spi h
+  pair_words-after g (outbound p) h = h
+  pair_words-after g (inbound p) h = h
+  pair_words-after g (comes_from_sa protocol spi p) h = h
 
-accepts-within : (limit : ℕ) (c : Call) (rs : Rules) → accepts limit c ≡ some rs → Within limit rs
-accepts-within limit (policy s) rs e = accepted-within limit (parsePolicy limit s) rs e
-accepts-within limit (add p) rs e = absurd (none≢some rs e)
-accepts-within limit (remove protocol spi) rs e = absurd (none≢some rs e)
-accepts-within limit (outbound p) rs e = absurd (none≢some rs e)
-accepts-within limit (inbound p) rs e = absurd (none≢some rs e)
-accepts-within limit (fromSa protocol spi p) rs e = absurd (none≢some rs e)
+accepts_within : (limit : ℕ) (c : Call) (rs : Rules) → accepts limit c ≡ some rs → Within limit rs
+accepts_within limit (policy s) rs e = accepted_within limit (parse_policy limit s) rs e
+accepts_within limit (add p) rs e = absurd (none≢some rs e)
+accepts_within limit (remove protocol spi) rs e = absurd (none≢some rs e)
+accepts_within limit (outbound p) rs e = absurd (none≢some rs e)
+accepts_within limit (inbound p) rs e = absurd (none≢some rs e)
+accepts_within limit (comes_from_sa protocol spi p) rs e = absurd (none≢some rs e)
 
 pub address_kept : (capacity limit address : ℕ) (rs : Rules) (g : Gateway) → Sound capacity limit address rs g → address_of g.spd ≡ address
 address_kept capacity limit address rs g s = rw s.policy-words
@@ -198,34 +198,34 @@ address_kept capacity limit address rs g s = rw s.policy-words
 module _ (capacity limit : ℕ) (bound : limit ≤ capacity) where
   module _ (address : ℕ) (rs : Rules) (g : Gateway) (s : Sound capacity limit address rs g) where
     -- The words that a packet call searches are the rows of the current policy's normal form.
-    pub rows-read : (d : Direction) → policyRows (rows_of capacity g.spd d) ≡ map bothWays (form d rs)
-    rows-read d = rw (s.policy-words, spd-rows capacity address rs (within_more limit capacity bound rs s.within) d) (form-words-rows d rs)
+    pub rows_read : (d : Direction) → policy_rows (rows_of capacity g.spd d) ≡ map for_both_ways (form d rs)
+    rows_read d = rw (s.policy-words, spd_rows capacity address rs (within_more limit capacity bound rs s.within) d) (form_words_rows d rs)
 
-    pub after-sound : (c : Call) → Sound capacity limit address (instead rs (accepts limit c)) (after capacity limit g c)
-    after-sound c = by (accepts limit c) refl
+    pub after_sound : (c : Call) → Sound capacity limit address (instead rs (accepts limit c)) (after capacity limit g c)
+    after_sound c = by (accepts limit c) refl
       where
         by : (o : Option Rules) → accepts limit c ≡ o → Sound capacity limit address (instead rs o) (after capacity limit g c)
         by none e =
             record {
               policy-words = spd-after capacity limit g c ∙ rw e s.policy-words;
               within = s.within;
-              pair-words = pair-words-after capacity limit g c s.pair-words;
-              holding = λ d. rw (cache-after capacity limit d g c, e) (search-holding d rs (rows_of capacity g.spd d) (rows-read d) (cacheOf d g.caches) (s.holding d) (searched d (address_of g.spd) c));
+              pair-words = pair_words-after capacity limit g c s.pair-words;
+              holding = λ d. rw (cache-after capacity limit d g c, e) (search_holding d rs (rows_of capacity g.spd d) (rows_read d) (cache_of d g.caches) (s.holding d) (searched d (address_of g.spd) c));
             }
         by (some qs) e =
             record {
-              policy-words = spd-after capacity limit g c ∙ rw e (ap (λ (a : ℕ). spdWords capacity a qs) (address_kept capacity limit address rs g s));
-              within = accepts-within limit c qs e;
-              pair-words = pair-words-after capacity limit g c s.pair-words;
-              holding = λ d. rw (cache-after capacity limit d g c, e) (empty-holding d qs);
+              policy-words = spd-after capacity limit g c ∙ rw e (ap (λ (a : ℕ). spd_words capacity a qs) (address_kept capacity limit address rs g s));
+              within = accepts_within limit c qs e;
+              pair-words = pair_words-after capacity limit g c s.pair-words;
+              holding = λ d. rw (cache-after capacity limit d g c, e) (empty_holding d qs);
             }
 
   -- After any sequence.
   run_sound : (address : ℕ) (rs : Rules) (g : Gateway) → Sound capacity limit address rs g → (cs : List Call)
-      → Sound capacity limit address (currentFrom limit rs cs) (run capacity limit g cs)
-  unfolding run currentFrom
+      → Sound capacity limit address (current_from limit rs cs) (run capacity limit g cs)
+  unfolding run current_from
   run_sound address rs g s [] = s
-  run_sound address rs g s (c ∷ cs) = run_sound address (instead rs (accepts limit c)) (after capacity limit g c) (after-sound address rs g s c) cs
+  run_sound address rs g s (c ∷ cs) = run_sound address (instead rs (accepts limit c)) (after capacity limit g c) (after_sound address rs g s c) cs
 
   pub sound : (address : ℕ) (cs : List Call) → Sound capacity limit address (current limit cs) (run capacity limit (fresh capacity address) cs)
-  sound address cs = run_sound address noRules (fresh capacity address) (fresh-sound capacity limit address) cs
+  sound address cs = run_sound address no_rules (fresh capacity address) (fresh_sound capacity limit address) cs

@@ -1,7 +1,7 @@
 // What a gateway holds of its policy, in lent words: its own address, and the normal-form rows of both directions (document 01).
 ghost use Rattle.std.specs.Prelude.{◌≡◌, ◌≤◌, ◌<◌, min};
-ghost use Rattle.policy.specs.Words.{rowLimit};
-ghost use Rattle.spd.specs.Words.{address_of, countAt, rows_at, rows_of};
+ghost use Rattle.policy.specs.Words.{row_limit};
+ghost use Rattle.spd.specs.Words.{address_of, count_at, rows_at, rows_of};
 
 use policy::{LIMIT, POLICY_WORDS, ROW_WORDS};
 use selectors::Direction;
@@ -15,7 +15,7 @@ pub const IN_ROWS: usize = OUT_ROWS + POLICY_WORDS;
 pub const SPD_WORDS: usize = IN_ROWS + POLICY_WORDS;
 
 fn count_at(direction: Direction) -> usize
-    ensures { (result ≡ countAt direction) × (result < 3) }
+    ensures { (result ≡ count_at direction) × (result < 3) }
 {
     match direction {
         Direction::Out => 1,
@@ -24,7 +24,7 @@ fn count_at(direction: Direction) -> usize
 }
 
 fn rows_at(direction: Direction) -> usize
-    ensures { (result ≡ rows_at rowLimit direction) × (result ≤ rows_at rowLimit Direction.In) }
+    ensures { (result ≡ rows_at row_limit direction) × (result ≤ rows_at row_limit Direction.In) }
 {
     match direction {
         Direction::Out => OUT_ROWS,
@@ -34,7 +34,7 @@ fn rows_at(direction: Direction) -> usize
 
 // A count of rows, never more than there is room for.
 fn capped(count: u64) -> usize
-    ensures { result ≡ min count rowLimit }
+    ensures { result ≡ min count row_limit }
 {
     if count < LIMIT as u64 {
         count as usize
@@ -52,7 +52,7 @@ pub fn address_of(words: &[u64; SPD_WORDS]) -> u64
 
 // The normal-form rows that the gateway holds for a direction, a part of the lent words.
 pub fn rows_of(words: &[u64; SPD_WORDS], direction: Direction) -> &[u64]
-    ensures { result.now ≡ rows_of rowLimit words.now direction }
+    ensures { result.now ≡ rows_of row_limit words.now direction }
 {
     let all: &[u64] = words;
     let count = capped(all[count_at(direction)]);

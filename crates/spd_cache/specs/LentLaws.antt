@@ -9,11 +9,11 @@ use Rattle.std.proofs.Math.Seq.{take-take, set-get_or, drop-length, paste, lengt
 use Rattle.std.proofs.lemmas.List.{set_split, take-append-le, drop-append-le}
 use Rattle.selectors.specs.declared.Direction.{Direction}
 use Rattle.policy.specs.declared.Found.TheVariants.{Row}
-use Rattle.policy.specs.Policy.{matchFrom}
-use Rattle.policy.specs.Words.{rowWords}
-use Rattle.spd_cache.specs.Cache.{slotCount, slotsWords, usedWords, inUse, cached, actionAt, stored}
-use Rattle.spd_cache.specs.CacheLaws.{slot-bound, used-action}
-use Rattle.spd_cache.specs.Lent.{countAt, next_at, cacheSize, cacheFrom, cacheWords}
+use Rattle.policy.specs.Policy.{match_from}
+use Rattle.policy.specs.Words.{row_words}
+use Rattle.spd_cache.specs.Cache.{slot_count, slots_words, used_words, in_use, cached, action_at, stored}
+use Rattle.spd_cache.specs.CacheLaws.{slot_bound, used_action}
+use Rattle.spd_cache.specs.Lent.{count_at, next_at, cache_size, cache_from, cache_words}
 
 -- One turn of a copy: the first i words are copied, and the next one is.
 pub copied_next : (to from : List ℕ) (i : ℕ) → i < length to → i < length from → take i to ≡ take i from
@@ -21,13 +21,13 @@ pub copied_next : (to from : List ℕ) (i : ℕ) → i < length to → i < lengt
 copied_next to from i h g e = rw (add-one, take-suc-set to i (get_or from i 0) h, take-suc from i 0 g, e) refl
 
 -- A list that is copied whole.
-pub copied-whole : (to from : List ℕ) (n : ℕ) → length to ≡ n → take n to ≡ take n from → to ≡ take n from
-copied-whole to from n h e = sym (take_all n to (omega (arith, h))) ∙ e
+pub copied_whole : (to from : List ℕ) (n : ℕ) → length to ≡ n → take n to ≡ take n from → to ≡ take n from
+copied_whole to from n h e = sym (take_all n to (omega (arith, h))) ∙ e
 
 -- The words of a cache: those of the slots, and then two more.
-pub two-more : (to words : List ℕ) (n a b : ℕ) → length to ≡ n + 2 → length words ≡ n → take n to ≡ take n words
+pub two_more : (to words : List ℕ) (n a b : ℕ) → length to ≡ n + 2 → length words ≡ n → take n to ≡ take n words
     → set (set to n a) (n + 1) b ≡ words ++ a ∷ b ∷ []
-two-more to words n a b h g e =
+two_more to words n a b h g e =
     let whole : take n to ≡ words = e ∙ take_all n words (omega (arith, g)) in
     let long : length (set to n a) ≡ n + 2 = length-set to n a ∙ h in
     let first : take (n + 1) (set to n a) ≡ words ++ a ∷ [] = rw add-one (take-suc-set to n a (omega (arith, h)) ∙ ap (λ (r : List ℕ). r ++ a ∷ []) whole) in
@@ -52,46 +52,46 @@ paste-take ws n at s m h k l =
     ∙ ap (take n) (paste-append (take n ws) (drop n ws) at s m room)
     ∙ take_at (paste (take n ws) at s m) (drop n ws) n (length-paste (take n ws) at s m room l ∙ h)
 
-module _ (ws : List ℕ) (h : length ws ≡ cacheSize) where
-  long : length (take slotsWords ws) ≡ slotsWords
+module _ (ws : List ℕ) (h : length ws ≡ cache_size) where
+  long : length (take slots_words ws) ≡ slots_words
   long = simp length-take (omega (arith, h))
 
   -- The words of a cache that was read from words are those words: a call that leaves the cache leaves them.
-  pub cache-kept : cacheWords (cacheFrom ws) ≡ ws
-  unfolding cacheWords cacheFrom
-  cache-kept =
-      sym (two-more ws (take slotsWords ws) slotsWords (get_or ws countAt 0) (get_or ws next_at 0) h long (sym (take-take slotsWords slotsWords ws (omega arith))))
-      ∙ ap (λ (r : List ℕ). set r next_at (get_or ws next_at 0)) (set-get_or ws countAt 0)
+  pub cache_kept : cache_words (cache_from ws) ≡ ws
+  unfolding cache_words cache_from
+  cache_kept =
+      sym (two_more ws (take slots_words ws) slots_words (get_or ws count_at 0) (get_or ws next_at 0) h long (sym (take-take slots_words slots_words ws (omega arith))))
+      ∙ ap (λ (r : List ℕ). set r next_at (get_or ws next_at 0)) (set-get_or ws count_at 0)
       ∙ set-get_or ws next_at 0
 
   -- The slots in use, read off the words that are lent.
-  pub slots-in-use : inUse (cacheFrom ws) ≡ usedWords ws (get_or ws countAt 0)
-  unfolding cacheFrom
-  slots-in-use = take-take (min (get_or ws countAt 0) slotCount * rowWords) slotsWords ws (omega arith)
+  pub slots-in_use : in_use (cache_from ws) ≡ used_words ws (get_or ws count_at 0)
+  unfolding cache_from
+  slots-in_use = take-take (min (get_or ws count_at 0) slot_count * row_words) slots_words ws (omega arith)
 
   -- A hit is in one of the slots in use, and its action is read where it lies.
-  pub hit-below : (d : Direction) (vs : List ℕ) (j : ℕ) → matchFrom 0 d (cached (cacheFrom ws)) vs ≡ Row j → j < min (get_or ws countAt 0) slotCount
-  unfolding cacheFrom
-  hit-below d vs j e = slot-bound (take slotsWords ws) (get_or ws countAt 0) d vs j e
+  pub hit_below : (d : Direction) (vs : List ℕ) (j : ℕ) → match_from 0 d (cached (cache_from ws)) vs ≡ Row j → j < min (get_or ws count_at 0) slot_count
+  unfolding cache_from
+  hit_below d vs j e = slot_bound (take slots_words ws) (get_or ws count_at 0) d vs j e
 
-  pub hit-action : (j : ℕ) → j < min (get_or ws countAt 0) slotCount → actionAt (inUse (cacheFrom ws)) j ≡ actionAt ws j
-  hit-action j l = rw slots-in-use (used-action ws (get_or ws countAt 0) j l)
+  pub hit_action : (j : ℕ) → j < min (get_or ws count_at 0) slot_count → action_at (in_use (cache_from ws)) j ≡ action_at ws j
+  hit_action j l = rw slots-in_use (used_action ws (get_or ws count_at 0) j l)
 
   -- A row stored where it lies.
-  pub stored-words : (rows : List ℕ) (j : ℕ) → j * rowWords + rowWords ≤ length rows
+  pub stored-words : (rows : List ℕ) (j : ℕ) → j * row_words + row_words ≤ length rows
       → set
-      (set (paste ws (get_or ws next_at 0 % slotCount * rowWords) (drop (j * rowWords) rows) rowWords) countAt (max (min (get_or ws countAt 0) slotCount) (get_or ws next_at 0 % slotCount + 1)))
+      (set (paste ws (get_or ws next_at 0 % slot_count * row_words) (drop (j * row_words) rows) row_words) count_at (max (min (get_or ws count_at 0) slot_count) (get_or ws next_at 0 % slot_count + 1)))
       next_at
-      ((get_or ws next_at 0 % slotCount + 1) % slotCount)
-      ≡ cacheWords (stored (cacheFrom ws) rows j)
-  unfolding cacheWords cacheFrom
+      ((get_or ws next_at 0 % slot_count + 1) % slot_count)
+      ≡ cache_words (stored (cache_from ws) rows j)
+  unfolding cache_words cache_from
   stored-words rows j l =
-      let at = get_or ws next_at 0 % slotCount * rowWords in
-      let new = drop (j * rowWords) rows in
-      let below : at + rowWords ≤ slotsWords = omega (arith, mod-lt (get_or ws next_at 0) {m = slotCount} (omega arith)) in
-      let row : rowWords ≤ length new = simp length-drop (omega arith) in
-      let slots : length (paste (take slotsWords ws) at new rowWords) ≡ slotsWords = length-paste (take slotsWords ws) at new rowWords (omega (arith, long)) row ∙ long in
-      two-more (paste ws at new rowWords) (paste (take slotsWords ws) at new rowWords) slotsWords _ _
-      (length-paste ws at new rowWords (omega (arith, h)) row ∙ h)
+      let at = get_or ws next_at 0 % slot_count * row_words in
+      let new = drop (j * row_words) rows in
+      let below : at + row_words ≤ slots_words = omega (arith, mod-lt (get_or ws next_at 0) {m = slot_count} (omega arith)) in
+      let row : row_words ≤ length new = simp length-drop (omega arith) in
+      let slots : length (paste (take slots_words ws) at new row_words) ≡ slots_words = length-paste (take slots_words ws) at new row_words (omega (arith, long)) row ∙ long in
+      two_more (paste ws at new row_words) (paste (take slots_words ws) at new row_words) slots_words _ _
+      (length-paste ws at new row_words (omega (arith, h)) row ∙ h)
       slots
-      (paste-take ws slotsWords at new rowWords long below row ∙ sym (take_all slotsWords _ (omega (arith, slots))))
+      (paste-take ws slots_words at new row_words long below row ∙ sym (take_all slots_words _ (omega (arith, slots))))

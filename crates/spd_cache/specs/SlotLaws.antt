@@ -14,33 +14,33 @@ use Rattle.std.proofs.lemmas.List.{length-replicate}
 use Rattle.std.proofs.lemmas.List.Edits.{length-paste}
 use Rattle.selectors.specs.Words.{value_at}
 use Rattle.selectors.specs.declared.Direction.{Direction}
-use Rattle.selectors.specs.StoresLaws.{paste-before, paste-in, paste-after}
+use Rattle.selectors.specs.StoresLaws.{paste-before, paste_in, paste-after}
 use Rattle.policy.specs.declared.Found.{Found}
 use Rattle.policy.specs.declared.Found.TheVariants.{Row, Nothing}
-use Rattle.policy.specs.Policy.{PolicyRow, matches, orderedSearch, matchFrom}
-use Rattle.policy.specs.Words.{row_at, rows_from, rowWords, policyRows}
-use Rattle.policy.specs.WordsLaws.{actionFound, search-match}
-use Rattle.policy.specs.RowsLaws.{row_same, rows_same, front-rows}
+use Rattle.policy.specs.Policy.{PolicyRow, matches, ordered_search, match_from}
+use Rattle.policy.specs.Words.{row_at, rows_from, row_words, policy_rows}
+use Rattle.policy.specs.WordsLaws.{action_found, search_match}
+use Rattle.policy.specs.RowsLaws.{row_same, rows_same, front_rows}
 use Rattle.spd_cache.specs.declared.Cache.{Cache}
 use Rattle.spd_cache.specs.declared.Looked.{Looked}
-use Rattle.spd_cache.specs.Cache.{slotCount, slotsWords, emptyCache, inUse, cached, turn, put, stored, lookedUp, replaced}
-use Rattle.spd_cache.specs.CacheLaws.{row-bound, lookup-hit, lookup-miss, lookup-none}
+use Rattle.spd_cache.specs.Cache.{slot_count, slots_words, empty_cache, in_use, cached, turn, put, stored, looked_up, replaced}
+use Rattle.spd_cache.specs.CacheLaws.{row_bound, lookup_hit, lookup_miss, lookup_none}
 
 -- The rows from one place on, in pieces.
-take-rows : (ws : List ℕ) (i n k : ℕ) → k ≤ n → take k (rows_from ws i n) ≡ rows_from ws i k
+take_rows : (ws : List ℕ) (i n k : ℕ) → k ≤ n → take k (rows_from ws i n) ≡ rows_from ws i k
 unfolding rows_from
-take-rows ws i n zero h = refl
-take-rows ws i zero (suc k) h = absurd (omega arith)
-take-rows ws i (suc n) (suc k) h = ap (◌∷◌ (row_at ws (i * rowWords))) (take-rows ws (suc i) n k (omega arith))
+take_rows ws i n zero h = refl
+take_rows ws i zero (suc k) h = absurd (omega arith)
+take_rows ws i (suc n) (suc k) h = ap (◌∷◌ (row_at ws (i * row_words))) (take_rows ws (suc i) n k (omega arith))
 
-drop-rows : (ws : List ℕ) (i n k : ℕ) → drop k (rows_from ws i n) ≡ rows_from ws (i + k) (n - k)
+drop_rows : (ws : List ℕ) (i n k : ℕ) → drop k (rows_from ws i n) ≡ rows_from ws (i + k) (n - k)
 unfolding rows_from
-drop-rows ws i n zero = rw (add-zero, sub-zero)
-drop-rows ws i zero (suc k) = rw zero-sub
-drop-rows ws i (suc n) (suc k) =
+drop_rows ws i n zero = rw (add-zero, sub-zero)
+drop_rows ws i zero (suc k) = rw zero-sub
+drop_rows ws i (suc n) (suc k) =
     let e : suc i + k ≡ i + suc k = omega arith in
     let f : n - k ≡ suc n - suc k = omega arith in
-    drop-rows ws (suc i) n k ∙ rw (e, f)
+    drop_rows ws (suc i) n k ∙ rw (e, f)
 
 split_rows : (ws : List ℕ) (i n m : ℕ) → rows_from ws i (n + m) ≡ rows_from ws i n ++ rows_from ws (i + n) m
 unfolding rows_from
@@ -48,40 +48,40 @@ split_rows ws i zero m = let e : zero + m ≡ m = omega arith in rw (e, add-zero
 split_rows ws i (suc n) m =
     let e : suc n + m ≡ suc (n + m) = omega arith in
     let f : suc i + n ≡ i + suc n = omega arith in
-    ap (rows_from ws i) e ∙ ap (◌∷◌ (row_at ws (i * rowWords))) (split_rows ws (suc i) n m ∙ rw f)
+    ap (rows_from ws i) e ∙ ap (◌∷◌ (row_at ws (i * row_words))) (split_rows ws (suc i) n m ∙ rw f)
 
 -- The slots are filled from the first on: those in use are the first `count`, and the turn is at one of them or at the next.
 pub record Filled (c : Cache) : Type 0 where
-  pub size : length c.words ≡ slotsWords
-  pub limit : c.count ≤ slotCount
-  pub turn_below : c.next < slotCount
+  pub size : length c.words ≡ slots_words
+  pub limit : c.count ≤ slot_count
+  pub turn_below : c.next < slot_count
   pub turn-next : c.next ≤ c.count
 
-pub empty-filled : Filled emptyCache
-empty-filled = record { size = length-replicate {A = ℕ} (slotsWords) 0; limit = omega arith; turn_below = omega arith; turn-next = omega arith }
+pub empty_filled : Filled empty_cache
+empty_filled = record { size = length-replicate {A = ℕ} (slots_words) 0; limit = omega arith; turn_below = omega arith; turn-next = omega arith }
 
-pub empty-cached : cached emptyCache ≡ []
+pub empty-cached : cached empty_cache ≡ []
 unfolding rows_from
 empty-cached = refl
 
-replaced-mem : (rs : List PolicyRow) (slot : ℕ) (q r : PolicyRow) → Memᴰ r (replaced rs slot q) → Memᴰ r rs ⊎ (r ≡ q)
-replaced-mem rs slot q r m =
+replaced_mem : (rs : List PolicyRow) (slot : ℕ) (q r : PolicyRow) → Memᴰ r (replaced rs slot q) → Memᴰ r rs ⊎ (r ≡ q)
+replaced_mem rs slot q r m =
     ⊎_elim
     (λ (a : Memᴰ r (take slot rs)). inl (rw take-append-drop at (Memᴰ.append_left (drop slot rs) a)))
     (λ b. ⊎_elim inr (λ (a : Memᴰ r (drop (slot + 1) rs)). inl (rw take-append-drop at (Memᴰ.append_right (take (slot + 1) rs) a))) (Memᴰ.cases_cons b))
     (Memᴰ.append_cases (take slot rs) m)
 
-module _ (c : Cache) (rows : List ℕ) (j : ℕ) (f : Filled c) (h : j * rowWords + rowWords ≤ length rows) where
-  room : turn c * rowWords + rowWords ≤ length c.words
+module _ (c : Cache) (rows : List ℕ) (j : ℕ) (f : Filled c) (h : j * row_words + row_words ≤ length rows) where
+  room : turn c * row_words + row_words ≤ length c.words
   room = omega (arith, f.turn_below, f.size)
 
-  source : rowWords ≤ length (drop (j * rowWords) rows)
+  source : row_words ≤ length (drop (j * row_words) rows)
   source = simp length-drop (omega arith)
 
-  pub stored-filled : Filled (stored c rows j)
-  stored-filled =
+  pub stored_filled : Filled (stored c rows j)
+  stored_filled =
       record {
-        size = length-paste c.words (turn c * rowWords) (drop (j * rowWords) rows) rowWords room source ∙ f.size;
+        size = length-paste c.words (turn c * row_words) (drop (j * row_words) rows) row_words room source ∙ f.size;
         limit = omega arith;
         turn_below = omega arith;
         turn-next = omega arith;
@@ -90,91 +90,91 @@ module _ (c : Cache) (rows : List ℕ) (j : ℕ) (f : Filled c) (h : j * rowWord
   rows_before : rows_from (put c.words (turn c) rows j) 0 (turn c) ≡ rows_from c.words 0 (turn c)
   rows_before =
       rows_same _ _ 0 (turn c)
-      (λ k p q. row_same _ _ (k * rowWords) (k * rowWords)
-      (λ x l. paste-before c.words (drop (j * rowWords) rows) (turn c * rowWords) rowWords room source (k * rowWords + x) (omega arith)))
+      (λ k p q. row_same _ _ (k * row_words) (k * row_words)
+      (λ x l. paste-before c.words (drop (j * row_words) rows) (turn c * row_words) row_words room source (k * row_words + x) (omega arith)))
 
-  row_in : row_at (put c.words (turn c) rows j) (turn c * rowWords) ≡ row_at rows (j * rowWords)
+  row_in : row_at (put c.words (turn c) rows j) (turn c * row_words) ≡ row_at rows (j * row_words)
   row_in =
-      row_same _ _ (turn c * rowWords) (j * rowWords)
-      (λ x l. paste-in c.words (drop (j * rowWords) rows) (turn c * rowWords) rowWords room source x l ∙ get_or-drop (j * rowWords) rows x 0)
+      row_same _ _ (turn c * row_words) (j * row_words)
+      (λ x l. paste_in c.words (drop (j * row_words) rows) (turn c * row_words) row_words room source x l ∙ get_or-drop (j * row_words) rows x 0)
 
   rows-after : (n : ℕ) → rows_from (put c.words (turn c) rows j) (turn c + 1) n ≡ rows_from c.words (turn c + 1) n
   rows-after n =
       rows_same _ _ (turn c + 1) n
-      (λ k p q. row_same _ _ (k * rowWords) (k * rowWords)
-      (λ x l. paste-after c.words (drop (j * rowWords) rows) (turn c * rowWords) rowWords room source (k * rowWords + x) (omega arith)))
+      (λ k p q. row_same _ _ (k * row_words) (k * row_words)
+      (λ x l. paste-after c.words (drop (j * row_words) rows) (turn c * row_words) row_words room source (k * row_words + x) (omega arith)))
 
   rows_split : (n : ℕ) → rows_from (put c.words (turn c) rows j) 0 (turn c + suc n)
-      ≡ rows_from c.words 0 (turn c) ++ row_at rows (j * rowWords) ∷ rows_from c.words (turn c + 1) n
+      ≡ rows_from c.words 0 (turn c) ++ row_at rows (j * row_words) ∷ rows_from c.words (turn c + 1) n
   unfolding rows_from
   rows_split n =
       let z : 0 + turn c ≡ turn c = omega arith in
       split_rows (put c.words (turn c) rows j) 0 (turn c) (suc n) ∙ rw (z, rows_before, row_in, ← add-one (turn c), rows-after n)
 
   -- A store replaces the row of the slot whose turn it is by the row j.
-  pub stored-rows : cached (stored c rows j) ≡ replaced (cached c) (turn c) (row_at rows (j * rowWords))
-  stored-rows =
-      let n : ℕ = min c.count slotCount in
-      let m : ℕ = min (max n (turn c + 1)) slotCount in
+  pub stored_rows : cached (stored c rows j) ≡ replaced (cached c) (turn c) (row_at rows (j * row_words))
+  stored_rows =
+      let n : ℕ = min c.count slot_count in
+      let m : ℕ = min (max n (turn c + 1)) slot_count in
       let e : m ≡ turn c + suc (n - (turn c + 1)) = omega (arith, f.turn-next, f.limit) in
       let z : 0 + (turn c + 1) ≡ turn c + 1 = omega arith in
-      front-rows (put c.words (turn c) rows j) m (omega (arith, stored-filled.size))
+      front_rows (put c.words (turn c) rows j) m (omega (arith, stored_filled.size))
       ∙ ap (rows_from (put c.words (turn c) rows j) 0) e
       ∙ rows_split (n - (turn c + 1))
-      ∙ sym (ap (λ rs. replaced rs (turn c) (row_at rows (j * rowWords))) (front-rows c.words n (omega (arith, f.size)))
-      ∙ rw (take-rows c.words 0 n (turn c) (omega arith), drop-rows c.words 0 n (turn c + 1), z))
+      ∙ sym (ap (λ rs. replaced rs (turn c) (row_at rows (j * row_words))) (front_rows c.words n (omega (arith, f.size)))
+      ∙ rw (take_rows c.words 0 n (turn c) (omega arith), drop_rows c.words 0 n (turn c + 1), z))
 
-  pub stored-mem : (r : PolicyRow) → Memᴰ r (cached (stored c rows j)) → Memᴰ r (cached c) ⊎ (r ≡ row_at rows (j * rowWords))
-  stored-mem r m = replaced-mem (cached c) (turn c) (row_at rows (j * rowWords)) r (rw stored-rows at m)
+  pub stored_mem : (r : PolicyRow) → Memᴰ r (cached (stored c rows j)) → Memᴰ r (cached c) ⊎ (r ≡ row_at rows (j * row_words))
+  stored_mem r m = replaced_mem (cached c) (turn c) (row_at rows (j * row_words)) r (rw stored_rows at m)
 
 -- A match is one of the rows, and it matches.
 module _ (d : Direction) (ws : List ℕ) (vs : List ℕ) where
   Matched : ℕ → ℕ → ℕ → Type 0
-  Matched i n j = Memᴰ (row_at ws (j * rowWords)) (rows_from ws i n) × (matches d (row_at ws (j * rowWords)) vs ≡ true)
+  Matched i n j = Memᴰ (row_at ws (j * row_words)) (rows_from ws i n) × (matches d (row_at ws (j * row_words)) vs ≡ true)
 
-  matched : (i n j : ℕ) → matchFrom i d (rows_from ws i n) vs ≡ Row j → Matched i n j
-  unfolding rows_from matchFrom Matched
+  matched : (i n j : ℕ) → match_from i d (rows_from ws i n) vs ≡ Row j → Matched i n j
+  unfolding rows_from match_from Matched
   matched i zero j e = let z : ◌≡◌ {A = ℕ} 0 1 = cc in absurd (omega arith)
-  matched i (suc n) j e = by (matches d (row_at ws (i * rowWords)) vs) refl (matched (suc i) n j)
+  matched i (suc n) j e = by (matches d (row_at ws (i * row_words)) vs) refl (matched (suc i) n j)
     where
-      by : (b : Bool) → matches d (row_at ws (i * rowWords)) vs ≡ b
-          → (matchFrom (suc i) d (rows_from ws (suc i) n) vs ≡ Row j → Matched (suc i) n j) → Matched i (suc n) j
+      by : (b : Bool) → matches d (row_at ws (i * row_words)) vs ≡ b
+          → (match_from (suc i) d (rows_from ws (suc i) n) vs ≡ Row j → Matched (suc i) n j) → Matched i (suc n) j
       by true h ih = let k : Row i ≡ Row j = rw h at e in let l : i ≡ j = cc in rw (← l) (Memᴰ.head refl, h)
       by false h ih = let m = ih (rw h at e) in (Memᴰ.tail m.0, m.1)
 
 -- A lookup in filled slots: they stay filled, and a cached row afterwards is an old one or a row of `rows`.
 module _ (c : Cache) (rows : List ℕ) (d : Direction) (vs : List ℕ) where
-  pub lookup-filled : Filled c → Filled (lookedUp c rows d vs).cache
-  lookup-filled f = by (matchFrom 0 d (cached c) vs) refl (matchFrom 0 d (policyRows rows) vs) refl
+  pub lookup_filled : Filled c → Filled (looked_up c rows d vs).cache
+  lookup_filled f = by (match_from 0 d (cached c) vs) refl (match_from 0 d (policy_rows rows) vs) refl
     where
-      by : (slot : Found) → matchFrom 0 d (cached c) vs ≡ slot → (found : Found) → matchFrom 0 d (policyRows rows) vs ≡ found
-          → Filled (lookedUp c rows d vs).cache
-      by (Row i) e found g = rw (lookup-hit c rows d vs i e) f
-      by Nothing e (Row j) g = rw (lookup-miss c rows d vs j e g) (stored-filled c rows j f (row-bound rows d vs j g))
-      by Nothing e Nothing g = rw (lookup-none c rows d vs e g) f
+      by : (slot : Found) → match_from 0 d (cached c) vs ≡ slot → (found : Found) → match_from 0 d (policy_rows rows) vs ≡ found
+          → Filled (looked_up c rows d vs).cache
+      by (Row i) e found g = rw (lookup_hit c rows d vs i e) f
+      by Nothing e (Row j) g = rw (lookup_miss c rows d vs j e g) (stored_filled c rows j f (row_bound rows d vs j g))
+      by Nothing e Nothing g = rw (lookup_none c rows d vs e g) f
 
-  pub lookup-mem : Filled c → (r : PolicyRow) → Memᴰ r (cached (lookedUp c rows d vs).cache) → Memᴰ r (cached c) ⊎ Memᴰ r (policyRows rows)
+  pub lookup_mem : Filled c → (r : PolicyRow) → Memᴰ r (cached (looked_up c rows d vs).cache) → Memᴰ r (cached c) ⊎ Memᴰ r (policy_rows rows)
   unfolding Matched
-  lookup-mem f r m = by (matchFrom 0 d (cached c) vs) refl (matchFrom 0 d (policyRows rows) vs) refl
+  lookup_mem f r m = by (match_from 0 d (cached c) vs) refl (match_from 0 d (policy_rows rows) vs) refl
     where
-      by : (slot : Found) → matchFrom 0 d (cached c) vs ≡ slot → (found : Found) → matchFrom 0 d (policyRows rows) vs ≡ found
-          → Memᴰ r (cached c) ⊎ Memᴰ r (policyRows rows)
-      by (Row i) e found g = inl (rw (lookup-hit c rows d vs i e) at m)
+      by : (slot : Found) → match_from 0 d (cached c) vs ≡ slot → (found : Found) → match_from 0 d (policy_rows rows) vs ≡ found
+          → Memᴰ r (cached c) ⊎ Memᴰ r (policy_rows rows)
+      by (Row i) e found g = inl (rw (lookup_hit c rows d vs i e) at m)
       by Nothing e (Row j) g =
           ⊎_elim inl (λ q. inr (rw q (matched d rows vs 0 _ j g).0))
-          (stored-mem c rows j f (row-bound rows d vs j g) r (rw (lookup-miss c rows d vs j e g) at m))
-      by Nothing e Nothing g = inl (rw (lookup-none c rows d vs e g) at m)
+          (stored_mem c rows j f (row_bound rows d vs j g) r (rw (lookup_miss c rows d vs j e g) at m))
+      by Nothing e Nothing g = inl (rw (lookup_none c rows d vs e g) at m)
 
   -- A lookup answers as the ordered search of `rows` does, if each cached row that matches has that action.
-  pub lookup-action : ((r : PolicyRow) → Memᴰ r (cached c) → matches d r vs ≡ true → r.action ≡ orderedSearch d (policyRows rows) vs)
-      → (lookedUp c rows d vs).action ≡ orderedSearch d (policyRows rows) vs
-  unfolding Matched row_at actionFound
-  lookup-action h = by (matchFrom 0 d (cached c) vs) refl (matchFrom 0 d (policyRows rows) vs) refl
+  pub lookup_action : ((r : PolicyRow) → Memᴰ r (cached c) → matches d r vs ≡ true → r.action ≡ ordered_search d (policy_rows rows) vs)
+      → (looked_up c rows d vs).action ≡ ordered_search d (policy_rows rows) vs
+  unfolding Matched row_at action_found
+  lookup_action h = by (match_from 0 d (cached c) vs) refl (match_from 0 d (policy_rows rows) vs) refl
     where
-      by : (slot : Found) → matchFrom 0 d (cached c) vs ≡ slot → (found : Found) → matchFrom 0 d (policyRows rows) vs ≡ found
-          → (lookedUp c rows d vs).action ≡ orderedSearch d (policyRows rows) vs
+      by : (slot : Found) → match_from 0 d (cached c) vs ≡ slot → (found : Found) → match_from 0 d (policy_rows rows) vs ≡ found
+          → (looked_up c rows d vs).action ≡ ordered_search d (policy_rows rows) vs
       by (Row i) e found g =
-          let m = matched d (inUse c) vs 0 _ i e in
-          ap (λ (l : Looked). l.action) (lookup-hit c rows d vs i e) ∙ h (row_at (inUse c) (i * rowWords)) m.0 m.1
-      by Nothing e (Row j) g = rw (lookup-miss c rows d vs j e g, search-match d rows vs 0 _, g)
-      by Nothing e Nothing g = rw (lookup-none c rows d vs e g, search-match d rows vs 0 _, g)
+          let m = matched d (in_use c) vs 0 _ i e in
+          ap (λ (l : Looked). l.action) (lookup_hit c rows d vs i e) ∙ h (row_at (in_use c) (i * row_words)) m.0 m.1
+      by Nothing e (Row j) g = rw (lookup_miss c rows d vs j e g, search_match d rows vs 0 _, g)
+      by Nothing e Nothing g = rw (lookup_none c rows d vs e g, search_match d rows vs 0 _, g)

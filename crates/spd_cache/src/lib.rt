@@ -4,9 +4,9 @@ pub mod lent;
 
 ghost use Rattle.std.specs.Prelude.{◌≡◌, ◌+◌, ◌*◌, ◌≤◌, min, max, length};
 ghost use Rattle.selectors.specs.Value.{combination};
-ghost use Rattle.policy.specs.Policy.{matchFrom};
-ghost use Rattle.policy.specs.Words.{rowWords, policyRows};
-ghost use Rattle.spd_cache.specs.Cache.{slotCount, slotsWords, emptyCache, usedWords, actionAt, put, stored, lookedUp};
+ghost use Rattle.policy.specs.Policy.{match_from};
+ghost use Rattle.policy.specs.Words.{row_words, policy_rows};
+ghost use Rattle.spd_cache.specs.Cache.{slot_count, slots_words, empty_cache, used_words, action_at, put, stored, looked_up};
 
 use policy::{Action, Found, ROW_WORDS};
 use selectors::{Direction, Selectors};
@@ -33,7 +33,7 @@ pub struct Looked {
 }
 
 fn capped(count: usize) -> usize
-    ensures { result ≡ min count slotCount }
+    ensures { result ≡ min count slot_count }
 {
     if count < SLOTS { count } else { SLOTS }
 }
@@ -46,8 +46,8 @@ fn larger(a: usize, b: usize) -> usize
 
 // The first match among the slots in use, whose words are the first of `words`.
 fn in_slots(words: &[u64], count: usize, direction: Direction, selectors: Selectors) -> Found
-    requires { slotsWords ≤ length words.now }
-    ensures { result ≡ matchFrom 0 direction (policyRows (usedWords words.now count)) (combination selectors) }
+    requires { slots_words ≤ length words.now }
+    ensures { result ≡ match_from 0 direction (policy_rows (used_words words.now count)) (combination selectors) }
 {
     let used = capped(count) * ROW_WORDS;
     policy::first_match(&words[..used], direction, selectors)
@@ -55,15 +55,15 @@ fn in_slots(words: &[u64], count: usize, direction: Direction, selectors: Select
 
 // The action of the row at a place of `rows`.
 fn action_at(rows: &[u64], row: usize) -> Action
-    requires { row * rowWords + rowWords ≤ length rows.now }
-    ensures { result ≡ actionAt rows.now row }
+    requires { row * row_words + row_words ≤ length rows.now }
+    ensures { result ≡ action_at rows.now row }
 {
     policy::action_of(rows[row * ROW_WORDS + 1])
 }
 
 // Writes the row at place `row` of `rows` into a slot.
 fn put_row(words: &mut [u64], slot: usize, rows: &[u64], row: usize)
-    requires { (slot * rowWords + rowWords ≤ length words.old) × (row * rowWords + rowWords ≤ length rows.now) }
+    requires { (slot * row_words + row_words ≤ length words.old) × (row * row_words + row_words ≤ length rows.now) }
     ensures { words.new ≡ put words.old slot rows.now row }
 {
     let to = slot * ROW_WORDS;
@@ -77,7 +77,7 @@ fn put_row(words: &mut [u64], slot: usize, rows: &[u64], row: usize)
 
 impl Cache {
     pub fn empty() -> Cache
-        ensures { result ≡ emptyCache }
+        ensures { result ≡ empty_cache }
     {
         Cache {
             words: [0; SLOTS_WORDS],
@@ -87,7 +87,7 @@ impl Cache {
     }
 
     fn store(self, rows: &[u64], row: usize) -> Cache
-        requires { row * rowWords + rowWords ≤ length rows.now }
+        requires { row * row_words + row_words ≤ length rows.now }
         ensures { result ≡ stored self rows.now row }
     {
         let turn = self.next % SLOTS;
@@ -103,7 +103,7 @@ impl Cache {
     }
 
     pub fn lookup(self, rows: &[u64], direction: Direction, selectors: Selectors) -> Looked
-        ensures { result ≡ lookedUp self rows.now direction (combination selectors) }
+        ensures { result ≡ looked_up self rows.now direction (combination selectors) }
     {
         let slot = in_slots(&self.words, self.count, direction, selectors);
         if let Found::Row(hit) = slot {

@@ -1,7 +1,7 @@
 -- The two caches of a gateway as they are lent. Assumes nothing: these are definitions.
 use Rattle.std.specs.Prelude.{ℕ, List}
 use Rattle.acceptance.specs.declared.Caches.{Caches}
-use Rattle.spd_cache.specs.Lent.{cacheFrom}
+use Rattle.spd_cache.specs.Lent.{cache_from}
 
-abbrev pub cachesFrom : List ℕ → List ℕ → Caches
-cachesFrom out ins = record { outbound = cacheFrom out; inbound = cacheFrom ins }
+abbrev pub caches_from : List ℕ → List ℕ → Caches
+caches_from out ins = record { outbound = cache_from out; inbound = cache_from ins }

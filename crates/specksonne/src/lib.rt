@@ -1,27 +1,27 @@
 // The library that C and Rust programs link: what it says of itself, and functions that hand numbers and lent words on to one proved call each.
 ghost use Rattle.std.specs.Prelude.{◌≡◌, [], map, length, replicate};
 ghost use Rattle.selectors.specs.Value.{combination};
-ghost use Rattle.selectors.specs.Words.{selectorsOf};
-ghost use Rattle.packet.specs.Read.{readPacket};
-ghost use Rattle.policy.specs.Policy.{orderedSearch, matchFrom};
-ghost use Rattle.policy.specs.Words.{policyRows, rowWords, rowLimit, row_of};
-ghost use Rattle.policy_text.specs.Editions.{parsePolicy};
-ghost use Rattle.policy_parse.specs.Parsing.{parsedIn, parsedRoom, parsedNumber};
-ghost use Rattle.policy_print.specs.Printing.{printed, printedIn, printedRoom, printedNumber};
-ghost use Rattle.normal_form_file.specs.Normalise.{normalised, normalisedBytes, normalisedNumber, normalisedCarries};
-ghost use Rattle.same_policy.specs.Same.{compared, comparedNumber};
-ghost use Rattle.acceptance.specs.Spd.{spdWords, noRules, accepting, spdAfter, cachesAfter, acceptanceNumber, acceptanceCarries};
-ghost use Rattle.spd.specs.Words.{address_of, rows_of, spdSize};
-ghost use Rattle.sad.specs.Pairs.{tableWords, pairs, live, addOutcome, added, removeOutcome, removed, outcomeNumber};
-ghost use Rattle.spd_cache.specs.Cache.{emptyCache};
-ghost use Rattle.verdicts.specs.Calls.{fromSaBy};
-ghost use Rattle.gateway.specs.Cached.{outboundCached, inboundCached};
-ghost use Rattle.verdicts.specs.Verdict.{verdictNumber, carried};
-ghost use Rattle.spd_cache.specs.Lent.{cacheSize, cacheFrom, cacheWords};
-ghost use Rattle.answer_numbers.specs.Carries.{parsedCarries, printedCarries, comparedWords};
-ghost use Rattle.abi.specs.Words.{directionFrom, pairFrom, actionKind, actionNumber, isFound, placeFound, isReadable, readingWords, triggerWords};
-ghost use Rattle.specksonne.specs.Lent.{cachesFrom};
-ghost use Rattle.specksonne.specs.Sizes.{abiNumber, versionNumber, mostFormBytes};
+ghost use Rattle.selectors.specs.Words.{selectors_in};
+ghost use Rattle.packet.specs.Read.{read_packet};
+ghost use Rattle.policy.specs.Policy.{ordered_search, match_from};
+ghost use Rattle.policy.specs.Words.{policy_rows, row_words, row_limit, row_of};
+ghost use Rattle.policy_text.specs.Editions.{parse_policy};
+ghost use Rattle.policy_parse.specs.Parsing.{parsed_in, parsed_room, parsed_number};
+ghost use Rattle.policy_print.specs.Printing.{printed, printed_in, printed_room, printed_number};
+ghost use Rattle.normal_form_file.specs.Normalise.{normalised, normalised_bytes, normalised_number, normalised_carries};
+ghost use Rattle.same_policy.specs.Same.{compared, compared_number};
+ghost use Rattle.acceptance.specs.Spd.{spd_words, no_rules, accepting, spd_after, caches_after, acceptance_number, acceptance_carries};
+ghost use Rattle.spd.specs.Words.{address_of, rows_of, spd_size};
+ghost use Rattle.sad.specs.Pairs.{table_words, pairs, live, add_outcome, added, remove_outcome, removed, outcome_number};
+ghost use Rattle.spd_cache.specs.Cache.{empty_cache};
+ghost use Rattle.verdicts.specs.Calls.{from_sa_by};
+ghost use Rattle.gateway.specs.Cached.{outbound_cached, inbound_cached};
+ghost use Rattle.verdicts.specs.Verdict.{verdict_number, carried};
+ghost use Rattle.spd_cache.specs.Lent.{cache_size, cache_from, cache_words};
+ghost use Rattle.answer_numbers.specs.Carries.{parsed_carries, printed_carries, compared_words};
+ghost use Rattle.abi.specs.Words.{direction_of_number, pair_from, kind_of_action, number_of_action, is_found, place_found, is_readable, reading_words, trigger_words};
+ghost use Rattle.specksonne.specs.Lent.{caches_from};
+ghost use Rattle.specksonne.specs.Sizes.{abi_number, version_number, most_form_bytes};
 
 use acceptance::Caches;
 use packet::Reading;
@@ -46,12 +46,12 @@ const MINOR: u64 = 1;
 const PATCH: u64 = 0;
 
 // The number of the binary interface. It is a part of this function's name, to which the C header and the Rust wrapper refer: what was
-// compiled for another number does not link. It is raised, in this name, in `abiNumber`, in the header and in `ffi.rs`, whenever a program that
+// compiled for another number does not link. It is raised, in this name, in `abi_number`, in the header and in `ffi.rs`, whenever a program that
 // was compiled before could no longer be right: a size of lent words, what a word means, a parameter, a result, or an answer's carried
 // values change. A function that is new raises the version alone.
 #[unsafe(no_mangle)]
 pub extern "C" fn specksonne_abi_1() -> u64
-    ensures { result ≡ abiNumber }
+    ensures { result ≡ abi_number }
 {
     1
 }
@@ -59,7 +59,7 @@ pub extern "C" fn specksonne_abi_1() -> u64
 // The version, as one number.
 #[unsafe(no_mangle)]
 pub extern "C" fn specksonne_version() -> u64
-    ensures { result ≡ versionNumber 0 1 0 }
+    ensures { result ≡ version_number 0 1 0 }
 {
     MAJOR * 1000000 + MINOR * 1000 + PATCH
 }
@@ -67,7 +67,7 @@ pub extern "C" fn specksonne_version() -> u64
 // The words of a gateway's policy.
 #[unsafe(no_mangle)]
 pub extern "C" fn specksonne_policy_words() -> usize
-    ensures { result ≡ spdSize rowLimit }
+    ensures { result ≡ spd_size row_limit }
 {
     SPD_WORDS
 }
@@ -75,7 +75,7 @@ pub extern "C" fn specksonne_policy_words() -> usize
 // The words of the table of pairs.
 #[unsafe(no_mangle)]
 pub extern "C" fn specksonne_table_words() -> usize
-    ensures { result ≡ tableWords }
+    ensures { result ≡ table_words }
 {
     TABLE_WORDS
 }
@@ -83,7 +83,7 @@ pub extern "C" fn specksonne_table_words() -> usize
 // The words of a cache.
 #[unsafe(no_mangle)]
 pub extern "C" fn specksonne_cache_words() -> usize
-    ensures { result ≡ cacheSize }
+    ensures { result ≡ cache_size }
 {
     CACHE_WORDS
 }
@@ -91,7 +91,7 @@ pub extern "C" fn specksonne_cache_words() -> usize
 // The words of a row.
 #[unsafe(no_mangle)]
 pub extern "C" fn specksonne_row_words() -> usize
-    ensures { result ≡ rowWords }
+    ensures { result ≡ row_words }
 {
     ROW_WORDS
 }
@@ -99,7 +99,7 @@ pub extern "C" fn specksonne_row_words() -> usize
 // The most rows of a policy, and of a normal form for one direction.
 #[unsafe(no_mangle)]
 pub extern "C" fn specksonne_most_rows() -> usize
-    ensures { result ≡ rowLimit }
+    ensures { result ≡ row_limit }
 {
     LIMIT
 }
@@ -107,7 +107,7 @@ pub extern "C" fn specksonne_most_rows() -> usize
 // Bytes that are enough for every normal-form file.
 #[unsafe(no_mangle)]
 pub extern "C" fn specksonne_most_form_bytes() -> usize
-    ensures { result ≡ mostFormBytes }
+    ensures { result ≡ most_form_bytes }
 {
     MOST_FORM_BYTES
 }
@@ -121,9 +121,9 @@ pub extern "C" fn specksonne_fresh(
     inbound: &mut [u64; CACHE_WORDS],
     address: u32,
 )
-    ensures policy_after { policy.new ≡ spdWords rowLimit address noRules }
-    ensures table_after { (table.new ≡ replicate tableWords 0) × (pairs table.new ≡ []) }
-    ensures outbound_after { (outbound.new ≡ cacheWords emptyCache) × (inbound.new ≡ cacheWords emptyCache) }
+    ensures policy_after { policy.new ≡ spd_words row_limit address no_rules }
+    ensures table_after { (table.new ≡ replicate table_words 0) × (pairs table.new ≡ []) }
+    ensures outbound_after { (outbound.new ≡ cache_words empty_cache) × (inbound.new ≡ cache_words empty_cache) }
 {
     let caches = acceptance::fresh(policy, address);
     *table = [0; TABLE_WORDS];
@@ -142,11 +142,11 @@ pub extern "C" fn specksonne_policy(
     bytes: &[u8],
     carries: &mut u64,
 ) -> u64
-    ensures value { result ≡ acceptanceNumber (accepting rowLimit (parsePolicy rowLimit bytes.now)) }
-    ensures policy_after { policy.new ≡ spdAfter rowLimit rowLimit policy.old (parsePolicy rowLimit bytes.now) }
-    ensures outbound_after { outbound.new ≡ cacheWords (cachesAfter rowLimit (cachesFrom outbound.old inbound.old) (parsePolicy rowLimit bytes.now)).outbound }
-    ensures inbound_after { inbound.new ≡ cacheWords (cachesAfter rowLimit (cachesFrom outbound.old inbound.old) (parsePolicy rowLimit bytes.now)).inbound }
-    ensures carries_after { carries.new ≡ acceptanceCarries (accepting rowLimit (parsePolicy rowLimit bytes.now)) }
+    ensures value { result ≡ acceptance_number (accepting row_limit (parse_policy row_limit bytes.now)) }
+    ensures policy_after { policy.new ≡ spd_after row_limit row_limit policy.old (parse_policy row_limit bytes.now) }
+    ensures outbound_after { outbound.new ≡ cache_words (caches_after row_limit (caches_from outbound.old inbound.old) (parse_policy row_limit bytes.now)).outbound }
+    ensures inbound_after { inbound.new ≡ cache_words (caches_after row_limit (caches_from outbound.old inbound.old) (parse_policy row_limit bytes.now)).inbound }
+    ensures carries_after { carries.new ≡ acceptance_carries (accepting row_limit (parse_policy row_limit bytes.now)) }
 {
     let before = Caches {
         outbound: lent::load(outbound),
@@ -170,8 +170,8 @@ pub extern "C" fn specksonne_read(
     bytes: &[u8],
     selectors: &mut [u64; SELECTOR_WORDS],
 ) -> bool
-    ensures value { result ≡ isReadable (readPacket (directionFrom direction) bytes.now) }
-    ensures selectors_after { selectors.new ≡ readingWords (readPacket (directionFrom direction) bytes.now) }
+    ensures value { result ≡ is_readable (read_packet (direction_of_number direction) bytes.now) }
+    ensures selectors_after { selectors.new ≡ reading_words (read_packet (direction_of_number direction) bytes.now) }
 {
     let reading = packet::read(bytes, abi::direction_from(direction));
     match reading {
@@ -189,8 +189,8 @@ pub extern "C" fn specksonne_read(
 // Whether a packet is readable, and where its triggering header starts and how long it is (`packet::trigger`).
 #[unsafe(no_mangle)]
 pub extern "C" fn specksonne_trigger(bytes: &[u8], part: &mut [u64; 2]) -> bool
-    ensures value { result ≡ isReadable (readPacket Direction.Out bytes.now) }
-    ensures part_after { part.new ≡ triggerWords bytes.now (readPacket Direction.Out bytes.now) }
+    ensures value { result ≡ is_readable (read_packet Direction.Out bytes.now) }
+    ensures part_after { part.new ≡ trigger_words bytes.now (read_packet Direction.Out bytes.now) }
 {
     let reading = packet::read(bytes, Direction::Out);
     match reading {
@@ -213,8 +213,8 @@ pub extern "C" fn specksonne_search(
     selectors: &[u64; SELECTOR_WORDS],
     number: &mut u64,
 ) -> u64
-    ensures value { result ≡ actionKind (orderedSearch (directionFrom direction) (policyRows rows.now) (combination (selectorsOf selectors.now))) }
-    ensures number_after { number.new ≡ actionNumber (orderedSearch (directionFrom direction) (policyRows rows.now) (combination (selectorsOf selectors.now))) }
+    ensures value { result ≡ kind_of_action (ordered_search (direction_of_number direction) (policy_rows rows.now) (combination (selectors_in selectors.now))) }
+    ensures number_after { number.new ≡ number_of_action (ordered_search (direction_of_number direction) (policy_rows rows.now) (combination (selectors_in selectors.now))) }
 {
     let values = selectors::words::selectors_of(selectors);
     let action = policy::search(rows, abi::direction_from(direction), values);
@@ -230,8 +230,8 @@ pub extern "C" fn specksonne_search_records(
     selectors: &[u64; SELECTOR_WORDS],
     number: &mut u64,
 ) -> u64
-    ensures value { result ≡ actionKind (orderedSearch (directionFrom direction) (map row_of rows.now) (combination (selectorsOf selectors.now))) }
-    ensures number_after { number.new ≡ actionNumber (orderedSearch (directionFrom direction) (map row_of rows.now) (combination (selectorsOf selectors.now))) }
+    ensures value { result ≡ kind_of_action (ordered_search (direction_of_number direction) (map row_of rows.now) (combination (selectors_in selectors.now))) }
+    ensures number_after { number.new ≡ number_of_action (ordered_search (direction_of_number direction) (map row_of rows.now) (combination (selectors_in selectors.now))) }
 {
     let action = row_records::search(
         rows,
@@ -250,8 +250,8 @@ pub extern "C" fn specksonne_first_match(
     selectors: &[u64; SELECTOR_WORDS],
     place: &mut u64,
 ) -> bool
-    ensures value { result ≡ isFound (matchFrom 0 (directionFrom direction) (policyRows rows.now) (combination (selectorsOf selectors.now))) }
-    ensures place_after { place.new ≡ placeFound (matchFrom 0 (directionFrom direction) (policyRows rows.now) (combination (selectorsOf selectors.now))) }
+    ensures value { result ≡ is_found (match_from 0 (direction_of_number direction) (policy_rows rows.now) (combination (selectors_in selectors.now))) }
+    ensures place_after { place.new ≡ place_found (match_from 0 (direction_of_number direction) (policy_rows rows.now) (combination (selectors_in selectors.now))) }
 {
     let values = selectors::words::selectors_of(selectors);
     let found = policy::first_match(rows, abi::direction_from(direction), values);
@@ -262,9 +262,9 @@ pub extern "C" fn specksonne_first_match(
 // Parses a policy file into words of rows (`policy_parse::parse`).
 #[unsafe(no_mangle)]
 pub extern "C" fn specksonne_parse(bytes: &[u8], rows: &mut [u64], carries: &mut u64) -> u64
-    ensures value { result ≡ parsedNumber (parsedIn (length rows.old) (parsePolicy rowLimit bytes.now)) }
-    ensures rows_after { rows.new ≡ parsedRoom rows.old (parsePolicy rowLimit bytes.now) }
-    ensures carries_after { carries.new ≡ parsedCarries (parsedIn (length rows.old) (parsePolicy rowLimit bytes.now)) }
+    ensures value { result ≡ parsed_number (parsed_in (length rows.old) (parse_policy row_limit bytes.now)) }
+    ensures rows_after { rows.new ≡ parsed_room rows.old (parse_policy row_limit bytes.now) }
+    ensures carries_after { carries.new ≡ parsed_carries (parsed_in (length rows.old) (parse_policy row_limit bytes.now)) }
 {
     let parsed = policy_parse::parse(bytes, LIMIT, rows);
     *carries = answer_numbers::parsed_carries(parsed);
@@ -279,9 +279,9 @@ pub extern "C" fn specksonne_print(
     out: &mut [u8],
     carries: &mut u64,
 ) -> u64
-    ensures value { result ≡ printedNumber (printedIn (length out.old) (printed Edition.One (directionFrom direction) (policyRows rows.now))) }
-    ensures out_after { out.new ≡ printedRoom out.old (printed Edition.One (directionFrom direction) (policyRows rows.now)) }
-    ensures carries_after { carries.new ≡ printedCarries (printedIn (length out.old) (printed Edition.One (directionFrom direction) (policyRows rows.now))) }
+    ensures value { result ≡ printed_number (printed_in (length out.old) (printed Edition.One (direction_of_number direction) (policy_rows rows.now))) }
+    ensures out_after { out.new ≡ printed_room out.old (printed Edition.One (direction_of_number direction) (policy_rows rows.now)) }
+    ensures carries_after { carries.new ≡ printed_carries (printed_in (length out.old) (printed Edition.One (direction_of_number direction) (policy_rows rows.now))) }
 {
     let printed = policy_print::print(Edition::One, rows, abi::direction_from(direction), out);
     *carries = answer_numbers::printed_carries(printed);
@@ -296,9 +296,9 @@ pub extern "C" fn specksonne_normalise(
     out: &mut [u8],
     carries: &mut u64,
 ) -> u64
-    ensures value { result ≡ normalisedNumber (normalised rowLimit (directionFrom direction) (length out.old) (parsePolicy rowLimit bytes.now)) }
-    ensures out_after { out.new ≡ normalisedBytes rowLimit (directionFrom direction) out.old (parsePolicy rowLimit bytes.now) }
-    ensures carries_after { carries.new ≡ normalisedCarries (normalised rowLimit (directionFrom direction) (length out.old) (parsePolicy rowLimit bytes.now)) }
+    ensures value { result ≡ normalised_number (normalised row_limit (direction_of_number direction) (length out.old) (parse_policy row_limit bytes.now)) }
+    ensures out_after { out.new ≡ normalised_bytes row_limit (direction_of_number direction) out.old (parse_policy row_limit bytes.now) }
+    ensures carries_after { carries.new ≡ normalised_carries (normalised row_limit (direction_of_number direction) (length out.old) (parse_policy row_limit bytes.now)) }
 {
     let normalised = normal_form_file::normalise(bytes, abi::direction_from(direction), out);
     *carries = answer_numbers::normalised_carries(normalised);
@@ -313,8 +313,8 @@ pub extern "C" fn specksonne_same(
     direction: u64,
     carries: &mut [u64; 2],
 ) -> u64
-    ensures value { result ≡ comparedNumber (compared (directionFrom direction) (parsePolicy rowLimit first.now) (parsePolicy rowLimit second.now)) }
-    ensures carries_after { carries.new ≡ comparedWords (compared (directionFrom direction) (parsePolicy rowLimit first.now) (parsePolicy rowLimit second.now)) }
+    ensures value { result ≡ compared_number (compared (direction_of_number direction) (parse_policy row_limit first.now) (parse_policy row_limit second.now)) }
+    ensures carries_after { carries.new ≡ compared_words (compared (direction_of_number direction) (parse_policy row_limit first.now) (parse_policy row_limit second.now)) }
 {
     let compared = same_policy::same_policy(first, second, abi::direction_from(direction));
     *carries = answer_numbers::compared_carries(compared);
@@ -331,8 +331,8 @@ pub extern "C" fn specksonne_add(
     number: u64,
     ranges: &[u64; RANGES_WORDS],
 ) -> u64
-    ensures value { result ≡ outcomeNumber (addOutcome (pairs table.old) (pairFrom protocol spi_in spi_out number ranges.now)) }
-    ensures table_after { table.new ≡ added table.old (pairFrom protocol spi_in spi_out number ranges.now) }
+    ensures value { result ≡ outcome_number (add_outcome (pairs table.old) (pair_from protocol spi_in spi_out number ranges.now)) }
+    ensures table_after { table.new ≡ added table.old (pair_from protocol spi_in spi_out number ranges.now) }
 {
     let pair = abi::pair_from(protocol, spi_in, spi_out, number, ranges);
     answer_numbers::outcome_number(sad::add(table, pair))
@@ -345,7 +345,7 @@ pub extern "C" fn specksonne_remove(
     protocol: u64,
     spi_in: u32,
 ) -> u64
-    ensures value { result ≡ outcomeNumber (removeOutcome (pairs table.old) protocol spi_in) }
+    ensures value { result ≡ outcome_number (remove_outcome (pairs table.old) protocol spi_in) }
     ensures table_after { table.new ≡ removed table.old protocol spi_in }
 {
     answer_numbers::outcome_number(sad::remove(table, protocol, spi_in))
@@ -368,9 +368,9 @@ pub extern "C" fn specksonne_outbound(
     bytes: &[u8],
     carries: &mut [u64; 3],
 ) -> u64
-    ensures value { result ≡ verdictNumber (outboundCached (cacheFrom cache.old) (rows_of rowLimit policy.now Direction.Out) (pairs table.now) bytes.now).verdict }
-    ensures carries_after { carries.new ≡ carried (outboundCached (cacheFrom cache.old) (rows_of rowLimit policy.now Direction.Out) (pairs table.now) bytes.now).verdict }
-    ensures cache_after { cache.new ≡ cacheWords (outboundCached (cacheFrom cache.old) (rows_of rowLimit policy.now Direction.Out) (pairs table.now) bytes.now).cache }
+    ensures value { result ≡ verdict_number (outbound_cached (cache_from cache.old) (rows_of row_limit policy.now Direction.Out) (pairs table.now) bytes.now).verdict }
+    ensures carries_after { carries.new ≡ carried (outbound_cached (cache_from cache.old) (rows_of row_limit policy.now Direction.Out) (pairs table.now) bytes.now).verdict }
+    ensures cache_after { cache.new ≡ cache_words (outbound_cached (cache_from cache.old) (rows_of row_limit policy.now Direction.Out) (pairs table.now) bytes.now).cache }
 {
     let going_out = gateway_in_place::outbound(policy, table, cache, bytes);
     *carries = answer_numbers::verdict_carries(going_out);
@@ -386,9 +386,9 @@ pub extern "C" fn specksonne_inbound(
     bytes: &[u8],
     carries: &mut [u64; 3],
 ) -> u64
-    ensures value { result ≡ verdictNumber (inboundCached (cacheFrom cache.old) (rows_of rowLimit policy.now Direction.In) (address_of policy.now) (pairs table.now) bytes.now).verdict }
-    ensures carries_after { carries.new ≡ carried (inboundCached (cacheFrom cache.old) (rows_of rowLimit policy.now Direction.In) (address_of policy.now) (pairs table.now) bytes.now).verdict }
-    ensures cache_after { cache.new ≡ cacheWords (inboundCached (cacheFrom cache.old) (rows_of rowLimit policy.now Direction.In) (address_of policy.now) (pairs table.now) bytes.now).cache }
+    ensures value { result ≡ verdict_number (inbound_cached (cache_from cache.old) (rows_of row_limit policy.now Direction.In) (address_of policy.now) (pairs table.now) bytes.now).verdict }
+    ensures carries_after { carries.new ≡ carried (inbound_cached (cache_from cache.old) (rows_of row_limit policy.now Direction.In) (address_of policy.now) (pairs table.now) bytes.now).verdict }
+    ensures cache_after { cache.new ≡ cache_words (inbound_cached (cache_from cache.old) (rows_of row_limit policy.now Direction.In) (address_of policy.now) (pairs table.now) bytes.now).cache }
 {
     let coming_in = gateway_in_place::inbound(policy, table, cache, bytes);
     *carries = answer_numbers::verdict_carries(coming_in);
@@ -404,8 +404,8 @@ pub extern "C" fn specksonne_from_sa(
     bytes: &[u8],
     carries: &mut [u64; 3],
 ) -> u64
-    ensures value { result ≡ verdictNumber (fromSaBy protocol spi_in (pairs table.now) bytes.now) }
-    ensures carries_after { carries.new ≡ carried (fromSaBy protocol spi_in (pairs table.now) bytes.now) }
+    ensures value { result ≡ verdict_number (from_sa_by protocol spi_in (pairs table.now) bytes.now) }
+    ensures carries_after { carries.new ≡ carried (from_sa_by protocol spi_in (pairs table.now) bytes.now) }
 {
     let verdict = gateway::from_sa(table, protocol, spi_in, bytes);
     *carries = answer_numbers::verdict_carries(verdict);

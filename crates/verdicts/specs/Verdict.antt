@@ -3,21 +3,21 @@ use Rattle.std.specs.Prelude.{ℕ, List, [], ◌∷◌}
 use Rattle.verdicts.specs.declared.Verdict.{Verdict}
 use Rattle.verdicts.specs.declared.Verdict.TheVariants.{Pass, Deliver, Protect, Wanted, ToIpsec, NotReadable, Discarded, CameInClear, NoSuchPair, DoesNotFit, IpsecFragment, IpsecTooShort, TriggerUnreadable, TriggerDoesNotFit}
 
-abbrev pub verdictNumber : Verdict → ℕ
-verdictNumber Pass = 0
-verdictNumber Deliver = 1
-verdictNumber (Protect n protocol spi) = 2
-verdictNumber (Wanted n) = 3
-verdictNumber (ToIpsec protocol spi) = 4
-verdictNumber NotReadable = 10
-verdictNumber Discarded = 11
-verdictNumber CameInClear = 12
-verdictNumber NoSuchPair = 13
-verdictNumber DoesNotFit = 14
-verdictNumber IpsecFragment = 15
-verdictNumber IpsecTooShort = 16
-verdictNumber TriggerUnreadable = 17
-verdictNumber TriggerDoesNotFit = 18
+abbrev pub verdict_number : Verdict → ℕ
+verdict_number Pass = 0
+verdict_number Deliver = 1
+verdict_number (Protect n protocol spi) = 2
+verdict_number (Wanted n) = 3
+verdict_number (ToIpsec protocol spi) = 4
+verdict_number NotReadable = 10
+verdict_number Discarded = 11
+verdict_number CameInClear = 12
+verdict_number NoSuchPair = 13
+verdict_number DoesNotFit = 14
+verdict_number IpsecFragment = 15
+verdict_number IpsecTooShort = 16
+verdict_number TriggerUnreadable = 17
+verdict_number TriggerDoesNotFit = 18
 
 -- 'An answer carries zeros where nothing is listed.'
 abbrev pub carried : Verdict → List ℕ

@@ -2,7 +2,7 @@
 ghost use Rattle.std.specs.Prelude.{◌≡◌};
 ghost use Rattle.selectors.specs.Value.{combination};
 ghost use Rattle.sad.specs.Pairs.{pairs};
-ghost use Rattle.verdicts.specs.Calls.{outboundAction, inboundAction};
+ghost use Rattle.verdicts.specs.Calls.{outbound_action, inbound_action};
 
 use policy::Action;
 use sad::{PairFound, TABLE_WORDS};
@@ -41,7 +41,7 @@ pub enum Verdict {
 }
 
 fn protect(table: &[u64; TABLE_WORDS], selectors: Selectors, number: u64) -> Verdict
-    ensures { result ≡ outboundAction (pairs table.now) (combination selectors) (Action.Protect number) }
+    ensures { result ≡ outbound_action (pairs table.now) (combination selectors) (Action.Protect number) }
 {
     let found = sad::pair_for(table, number, selectors);
     match found {
@@ -52,7 +52,7 @@ fn protect(table: &[u64; TABLE_WORDS], selectors: Selectors, number: u64) -> Ver
 
 // What the action for a packet going out gives.
 pub fn outbound_action(table: &[u64; TABLE_WORDS], selectors: Selectors, action: Action) -> Verdict
-    ensures { result ≡ outboundAction (pairs table.now) (combination selectors) action }
+    ensures { result ≡ outbound_action (pairs table.now) (combination selectors) action }
 {
     match action {
         Action::Bypass => Verdict::Pass,
@@ -63,7 +63,7 @@ pub fn outbound_action(table: &[u64; TABLE_WORDS], selectors: Selectors, action:
 
 // What the action for a packet coming in from outside gives.
 pub fn inbound_action(action: Action) -> Verdict
-    ensures { result ≡ inboundAction action }
+    ensures { result ≡ inbound_action action }
 {
     match action {
         Action::Bypass => Verdict::Pass,

@@ -1,5 +1,5 @@
 -- `abi::pair_from` meets its contract: the ranges are read from their words. Assumes nothing.
-use Rattle.abi.specs.Words.{pairFrom}
+use Rattle.abi.specs.Words.{pair_from}
 use borrow.Author.Rules.{rules}
 use Rattle.abi.proofs.pair_from.Statement.{statement}
 use Rattle.abi.proofs.pair_from.Tie as tie
@@ -8,7 +8,7 @@ ranges-at-requires : tie.Need-ranges-at-requires
 ranges-at-requires c κs = search rules
 
 returns : tie.Need-returns
-unfolding pairFrom
+unfolding pair_from
 returns c = rw c.ranges-at.ensures
 
 pub pair-from-spec : {M : Type 1} → statement M

@@ -1,6 +1,6 @@
 -- `acceptance::fresh` meets its contract: the normal form of no rows has none. Assumes nothing.
 use mathlib.Core.Path.{◌∙◌}
-use Rattle.policy.specs.Words.{rowLimit}
+use Rattle.policy.specs.Words.{row_limit}
 use Rattle.acceptance.specs.SpdLaws.{empty-words}
 use borrow.Author.Rules.{rules}
 use Rattle.acceptance.proofs.fresh.Statement.{statement}
@@ -13,7 +13,7 @@ empty-caches-requires : tie.Need-empty-caches-requires
 empty-caches-requires c κs = search rules
 
 returns : tie.Need-returns
-returns c = (c.empty-caches.ensures, c.before.write.ensures ∙ empty-words rowLimit c.before.before.before.before.before.args.address)
+returns c = (c.empty-caches.ensures, c.before.write.ensures ∙ empty-words row_limit c.before.before.before.before.before.args.address)
 
 pub fresh-spec : {M : Type 1} → statement M
 fresh-spec = tie.close (tie.spec write-requires empty-caches-requires returns)

@@ -5,16 +5,16 @@ use native.Mathlib.Numerals.{add-one}
 use mathlib.Core.Path.{◌≡◌, refl, ◌∙◌}
 use lib.ListN.{length, length-set}
 use lib.Seq.{paste, paste-zero, paste-suc}
-use Rattle.policy.specs.Words.{policyWords}
+use Rattle.policy.specs.Words.{policy_words}
 use borrow.Author.Rules.{rules}
 use Rattle.acceptance.proofs.store.Statement.{statement}
 use Rattle.acceptance.proofs.store.Tie as tie
 
 abbrev invariant-loop : tie.invariant-loop
-invariant-loop words₀ at room i₀ words i = (i ≤ policyWords) × (words ≡ paste words₀ at room i) × (length words ≡ length words₀)
+invariant-loop words₀ at room i₀ words i = (i ≤ policy_words) × (words ≡ paste words₀ at room i) × (length words ≡ length words₀)
 
 abbrev decreases-loop : tie.decreases-loop
-decreases-loop words₀ at room i₀ words i = policyWords - i
+decreases-loop words₀ at room i₀ words i = policy_words - i
 
 loop-holds : tie.Need-loop-init invariant-loop decreases-loop
 loop-holds c = let a = c.args in (search rules, paste-zero a.words.now a.at a.room.now, refl)
@@ -53,7 +53,7 @@ same_length : tie.Need-same-length invariant-loop decreases-loop
 same_length c = search rules
 
 returns : tie.Need-returns invariant-loop decreases-loop
-returns c = let e : c.before.loop.i ≡ policyWords = omega arith in c.before.loop.invariant.1 ∙ rw e
+returns c = let e : c.before.loop.i ≡ policy_words = omega arith in c.before.loop.invariant.1 ∙ rw e
 
 pub store_spec : {M : Type 1} → statement M
 store_spec =

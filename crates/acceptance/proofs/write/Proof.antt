@@ -5,7 +5,7 @@ use mathlib.Core.List.{List}
 use lib.ListN.{length-set}
 use lib.Seq.{paste}
 use Rattle.selectors.specs.declared.Direction.TheVariants.{In}
-use Rattle.policy.specs.Words.{policyWords, rowLimit}
+use Rattle.policy.specs.Words.{policy_words, row_limit}
 use Rattle.spd.specs.Words.{rows_at}
 use Rattle.acceptance.specs.StoreLaws.{held-written}
 use borrow.Author.Rules.{rules}
@@ -31,8 +31,8 @@ returns : tie.Need-returns
 returns c =
     let s = c.before.before.before.before.before.before in
     c.store2.ensures
-    ∙ ap (λ (t : List ℕ). paste t (rows_at rowLimit In) s.args.inbound.now policyWords) c.before.before.before.store.ensures
-    ∙ held-written rowLimit s.args.words.now s.args.address s.args.out-count s.args.in_count s.args.outbound.now s.args.inbound.now
+    ∙ ap (λ (t : List ℕ). paste t (rows_at row_limit In) s.args.inbound.now policy_words) c.before.before.before.store.ensures
+    ∙ held-written row_limit s.args.words.now s.args.address s.args.out-count s.args.in_count s.args.outbound.now s.args.inbound.now
     (simp length-set at c.before.before.before.before.before.store-arg.given.0.1)
     (search rules)
     (search rules)

@@ -2,7 +2,7 @@
 use native.Mathlib.Omega.{arith}
 use mathlib.Core.Path.{refl}
 use mathlib.Core.Bool.{false≢true}
-use Rattle.agree.specs.EntriesLaws.{alike_of, alike-empty}
+use Rattle.agree.specs.EntriesLaws.{alike_of, alike_empty}
 use borrow.Author.Rules.{rules}
 use borrow.Author.Tests.{not-false}
 use Rattle.agree.proofs.same_behind.Statement.{statement}
@@ -12,7 +12,7 @@ returns : tie.Need-returns
 returns c = λ e. absurd (false≢true e)
 
 returns-2 : tie.Need-returns-2
-returns-2 c = λ e. alike-empty _ _ _ _ _ _ _ c.if2.true
+returns-2 c = λ e. alike_empty _ _ _ _ _ _ _ c.if2.true
 
 there-requires : tie.Need-there-requires
 there-requires c κs = search rules

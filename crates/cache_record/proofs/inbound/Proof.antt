@@ -13,10 +13,10 @@ use denote.Triple.Spec.{triple_of}
 use denote.Triple.Table.{entered, cited}
 use Rattle.selectors.specs.declared.Direction.TheVariants.{In}
 use Rattle.sad.specs.Pairs.{pairs}
-use Rattle.policy.specs.Words.{rowLimit}
+use Rattle.policy.specs.Words.{row_limit}
 use Rattle.spd.specs.Words.{rows_of, address_of}
 use Rattle.spd_cache.specs.declared.Cache.{Cache}
-use Rattle.gateway.specs.Cached.{inboundCached}
+use Rattle.gateway.specs.Cached.{inbound_cached}
 use Rattle.gateway.specs.declared.Answered.{Answered}
 use Rattle.gateway.proofs.inbound.Symbol as g-def
 use Rattle.gateway.proofs.inbound.Symbol.{name as #g}
@@ -28,7 +28,7 @@ use Rattle.cache_record.proofs.inbound.Statement as stated
 use Rattle.cache_record.proofs.inbound.Code as code
 
 abbrev answer : Cache → List ℕ → List ℕ → List ℕ → Answered
-answer cache policy table bytes = inboundCached cache (rows_of rowLimit policy In) (address_of policy) (pairs table) bytes
+answer cache policy table bytes = inbound_cached cache (rows_of row_limit policy In) (address_of policy) (pairs table) bytes
 
 -- the contract is the one that the walk is about
 clauses-is : {M : Type 1} {𝓤 : Ura M} (𝓛 : Logic 𝓤) (mem : Memory → SProp 𝓤) (run : Routine → Fun 𝓤) → f.clauses 𝓛 mem run ≡ in_place answer 𝓤

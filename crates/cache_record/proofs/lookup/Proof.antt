@@ -43,7 +43,7 @@ use denote.Exit.{yes}
 use Rattle.selectors.specs.Value.{combination}
 use Rattle.selectors.specs.declared.Direction.{Direction}
 use Rattle.selectors.specs.declared.Selectors.{Selectors}
-use Rattle.spd_cache.specs.Cache.{lookedUp}
+use Rattle.spd_cache.specs.Cache.{looked_up}
 use Rattle.spd_cache.specs.declared.Cache.{Cache}
 use Rattle.spd_cache.specs.declared.Looked.{Looked}
 use Rattle.selectors.specs.contracts.Direction as D
@@ -59,7 +59,7 @@ use Rattle.spd_cache.specs.contracts.Cache.lookup as g
 use Rattle.spd_cache.proofs.Cache.lookup.Symbol as g-def
 use Rattle.spd_cache.proofs.Cache.lookup.Symbol.{name as #g}
 use Rattle.spd_cache.proofs.Cache.lookup.Met as g-thm
-use Rattle.cache_record.proofs.Lent.{vals, IsCache, cache-typed, Place, Says, opens-cache, closes-cache}
+use Rattle.cache_record.proofs.Lent.{vals, IsCache, cache_typed, Place, Says, opens_cache, closes_cache}
 use Rattle.cache_record.specs.contracts.lookup.Key.{name as #f}
 use Rattle.cache_record.specs.contracts.lookup as f
 use Rattle.cache_record.proofs.lookup.Statement as stated
@@ -119,7 +119,7 @@ module _ {M : Type 1} {𝓤 : Ura M} (𝓛 : Logic 𝓤) (mem' : Memory → SPro
   twice = twices 𝓛 Rs (shr_slice_copy 𝓛 (named 1) κ' u64, (EL.copy D.the_type D'.the_copy 𝓛, (LL.copy S.the_type S'.the_copy 𝓛, tt))) others others-at
 
   abbrev found : Looked
-  found = lookedUp h others.0.now others.1.0 (combination others.1.1.0)
+  found = looked_up h others.0.now others.1.0 (combination others.1.1.0)
 
   abbrev got : Looked → Val
   got r = EL.val K.the_type K'.the_laws r.action
@@ -153,9 +153,9 @@ module _ {M : Type 1} {𝓤 : Ura M} (𝓛 : Logic 𝓤) (mem' : Memory → SPro
         alloc1 ! (λ l₀. alloc1 ! (λ l₁. alloc1 ! (λ l₂. alloc1 ! (λ l₃. alloc1 ! (λ l₄. alloc1 ! (λ l₅. alloc1 ! (λ l₆. alloc0 ! $ params1 ! $
         pass1 ! (init ! 10 refl (tt, tt)) $ pass1 ! (init ! 8 refl (tt, (tt, (record { fits = room.0 }, tt)))) $ pass1 ! (init ! 6 refl ((EL.lawful D.the_type D'.the_laws 𝓛 tt).typed others.1.0 _ way-is).0) $ pass1 ! (init ! 4 refl ((LL.lawful S.the_type S'.the_laws 𝓛).typed others.1.1.0 _ five-is).0) $ pass0 ! $
         -- [_6; …; _5; …; _4; …; _3; …; _2; …; _1; …; _0; …; the others; the others; obs; the borrow; κ's token; κ''s]: the borrow is opened
-        move ! (16 ∷ 17 ∷ 18 ∷ []) $ opens-cache ! tt h b o (λ was.
+        move ! (16 ∷ 17 ∷ 18 ∷ []) $ opens_cache ! tt h b o (λ was.
         -- [the record's cell; what a Cache owns; the open borrow; obs; auth; _6; …; _5; …; _4; …; _3; …; _2; …; _1; …; _0; …; the others; the others; κ''s token]
-        assigns ! (of_opd ! (load ! (from ! (hop ! (look ! 15 refl) (stop !))) (look_raw ! 0 refl))) (from ! (stop !)) (init ! 5 refl (cache-typed 𝓛 h was)) $
+        assigns ! (of_opd ! (load ! (from ! (hop ! (look ! 15 refl) (stop !))) (look_raw ! 0 refl))) (from ! (stop !)) (init ! 5 refl (cache_typed 𝓛 h was)) $
         -- the call
         move ! (1 ∷ 19 ∷ []) $ fjoin ! $ move ! (20 ∷ 0 ∷ []) $ use2 𝓛 (raw ((Core 𝓛 mem' run).pre to)) asked $
         calls_at ! fm (Core 𝓛 mem' run) known to (and_then ! (load ! (from ! (stop !)) (look ! 5 refl)) (and_then ! (load ! (from ! (stop !)) (look ! 13 refl)) (and_then ! (load ! (from ! (stop !)) (look ! 11 refl)) (and_then ! (load ! (from ! (stop !)) (look ! 9 refl)) (no_more !))))) (λ u.
@@ -164,10 +164,10 @@ module _ {M : Type 1} {𝓤 : Ura M} (𝓛 : Logic 𝓤) (mem' : Memory → SPro
         peeks ! L.the_row (Is L.the_row) (shows 𝓛 L.the_row) r (u ∷ []) (λ is.
         land ! (from ! (stop !)) (init ! 8 refl ((LL.lawful L.the_type L'.the_laws 𝓛).typed r _ is).0) $ rewrite ! 8 (λ (w : Val). ‵ (fat full_share L'.mir l₅ 0 w)) (ap only (LL.tells L.the_type L'.the_laws r _ is)) refl $ drop ! $
         -- [κ''s token; the record's cell; the open borrow; obs; auth; _6; …; _5; …; _4; …; _3; …; _2; …; _1; …; _0; …; the others]
-        assigns ! (of_opd ! (load ! (from ! (fld ! refl (stop !))) (look_in ! 7 (sub ! 1 refl (whole !))))) (from ! (hop ! (look ! 15 refl) (stop !))) (store_raw ! 1 refl (cache-typed 𝓛 r.cache (cache-of r _ is))) $
+        assigns ! (of_opd ! (load ! (from ! (fld ! refl (stop !))) (look_in ! 7 (sub ! 1 refl (whole !))))) (from ! (hop ! (look ! 15 refl) (stop !))) (store_raw ! 1 refl (cache_typed 𝓛 r.cache (cache-of r _ is))) $
         assigns ! (of_opd ! (load ! (from ! (fld ! refl (stop !))) (look_in ! 7 (sub ! 0 refl (whole !))))) (from ! (stop !)) (init ! 17 refl ((EL.lawful K.the_type K'.the_laws 𝓛 tt).typed r.action _ (action-of r _ is)).0) $
         -- the borrow is closed at the new record
-        move ! (1 ∷ 2 ∷ 3 ∷ 4 ∷ []) $ closes-cache ! tt r.cache b o (cache-of r _ is) $
+        move ! (1 ∷ 2 ∷ 3 ∷ 4 ∷ []) $ closes_cache ! tt r.cache b o (cache-of r _ is) $
         -- [obs; the borrow; κ's token; κ''s; _6; …; _5; …; _4; …; _3; …; _2; …; _1; …; _0; …; the others]
         returns ! (look ! 16 refl) $ forget ! 4 refl $ forget ! 6 refl $ forget ! 8 refl $ forget ! 10 refl $ forget ! 12 refl $ forget ! 14 refl $ forget ! 16 refl $
         move ! (16 ∷ 17 ∷ []) $ free1 ! $ move ! (14 ∷ 15 ∷ []) $ free1 ! $ move ! (12 ∷ 13 ∷ []) $ free1 ! $ move ! (10 ∷ 11 ∷ []) $ free1 ! $ move ! (8 ∷ 9 ∷ []) $ free1 ! $ move ! (6 ∷ 7 ∷ []) $ free1 ! $ move ! (4 ∷ 5 ∷ []) $ free1 ! $ free0 ! $

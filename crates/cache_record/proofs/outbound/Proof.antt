@@ -13,10 +13,10 @@ use denote.Triple.Spec.{triple_of}
 use denote.Triple.Table.{entered, cited}
 use Rattle.selectors.specs.declared.Direction.TheVariants.{Out}
 use Rattle.sad.specs.Pairs.{pairs}
-use Rattle.policy.specs.Words.{rowLimit}
+use Rattle.policy.specs.Words.{row_limit}
 use Rattle.spd.specs.Words.{rows_of}
 use Rattle.spd_cache.specs.declared.Cache.{Cache}
-use Rattle.gateway.specs.Cached.{outboundCached}
+use Rattle.gateway.specs.Cached.{outbound_cached}
 use Rattle.gateway.specs.declared.Answered.{Answered}
 use Rattle.gateway.proofs.outbound.Symbol as g-def
 use Rattle.gateway.proofs.outbound.Symbol.{name as #g}
@@ -28,7 +28,7 @@ use Rattle.cache_record.proofs.outbound.Statement as stated
 use Rattle.cache_record.proofs.outbound.Code as code
 
 abbrev answer : Cache → List ℕ → List ℕ → List ℕ → Answered
-answer cache policy table bytes = outboundCached cache (rows_of rowLimit policy Out) (pairs table) bytes
+answer cache policy table bytes = outbound_cached cache (rows_of row_limit policy Out) (pairs table) bytes
 
 -- the contract is the one that the walk is about
 clauses-is : {M : Type 1} {𝓤 : Ura M} (𝓛 : Logic 𝓤) (mem : Memory → SProp 𝓤) (run : Routine → Fun 𝓤) → f.clauses 𝓛 mem run ≡ in_place answer 𝓤

@@ -5,7 +5,7 @@ use mathlib.Core.Bool.{false≢true}
 use borrow.Author.Tests.{not-true, not-false}
 use borrow.Fn.Kinds.{In}
 use borrow.Fn.PlainCycle.{Measures, is, falls, and}
-use Rattle.cover.specs.BoxLaws.{Rest, rest_all, rest-surveyed, rest_part}
+use Rattle.cover.specs.BoxLaws.{Rest, rest_all, rest_surveyed, rest_part}
 use Rattle.cover.proofs.cover.Reads as cover
 use Rattle.cover.proofs.cover.Kinds as cover-kinds
 use Rattle.cover.proofs.+cover.Lts-cover as cover-lts
@@ -52,7 +52,7 @@ cover-survey-requires : (t : ℕ) → cover-lts.Need-survey-requires (cover-clai
 cover-survey-requires t c κs = search rules
 
 cover-returns-2 : (t : ℕ) → cover-lts.Need-returns-2 (cover-claims t) (cover-at t) cover.Post cover-Inv-loop cover-μ-loop
-cover-returns-2 t c = (search rules, λ h. rest-surveyed _ _ _ _ _ _ _ _ c.before.before.before.before.before.loop.invariant.1 c.before.survey.ensures c.if2.true)
+cover-returns-2 t c = (search rules, λ h. rest_surveyed _ _ _ _ _ _ _ _ c.before.before.before.before.before.loop.invariant.1 c.before.survey.ensures c.if2.true)
 
 cover-returns-3 : (t : ℕ) → cover-lts.Need-returns-3 (cover-claims t) (cover-at t) cover.Post cover-Inv-loop cover-μ-loop
 cover-returns-3 t c = (search rules, λ h. absurd (false≢true h))

@@ -2,8 +2,8 @@
 -- Assumes nothing.
 use Rattle.std.proofs.Common.{◌-◌, ◌≤◌, rules}
 use mathlib.Core.Bool.{false≢true}
-use Rattle.selectors.specs.Words.{fieldCount}
-use Rattle.cover.specs.BoxLaws.{rows-part}
+use Rattle.selectors.specs.Words.{field_count}
+use Rattle.cover.specs.BoxLaws.{rows_part}
 use Rattle.cover.proofs.rows_apart.Statement.{statement}
 use Rattle.cover.proofs.rows_apart.Tie as tie
 
@@ -11,7 +11,7 @@ abbrev invariant-loop : tie.invariant-loop
 invariant-loop rows a b field left right f₀ f = field ≤ f
 
 abbrev decreases-loop : tie.decreases-loop
-decreases-loop rows a b field left right f₀ f = fieldCount - f
+decreases-loop rows a b field left right f₀ f = field_count - f
 
 wide-requires : tie.Need-wide-requires invariant-loop decreases-loop
 wide-requires c κs = search rules
@@ -71,7 +71,7 @@ returns-3 : tie.Need-returns-3 invariant-loop decreases-loop
 returns-3 c = let b = c.before.before in
     let l = b.before.before.before in
     let w = l.before.before.before in
-    rw (← w.before.wide.ensures, ← w.wide2.ensures) (λ e. rows-part _ _ _ _ l.loop.f (search rules) (search rules)
+    rw (← w.before.wide.ensures, ← w.wide2.ensures) (λ e. rows_part _ _ _ _ l.loop.f (search rules) (search rules)
     (rw (b.before.ends_at.ensures, b.ends-at2.ensures) at (c.before.ranges_Apart.ensures c.if3.true)))
 
 add-f : tie.Need-overflow-add-f invariant-loop decreases-loop

@@ -6,18 +6,18 @@ use lib.ListN.{length, get_or, take, length-set, length-take}
 use lib.Seq.{get_or-set_same, get_or-set_other, ext_get_or}
 use borrow.Author.Count.{below_more}
 use borrow.Author.Rules.{rules}
-use Rattle.policy.specs.Words.{policyWords}
+use Rattle.policy.specs.Words.{policy_words}
 use Rattle.decorrelate.specs.Form.{padded}
-use Rattle.decorrelate.specs.RoomLaws.{padded-size}
+use Rattle.decorrelate.specs.RoomLaws.{padded_size}
 use Rattle.decorrelate.proofs.fill.Statement.{statement}
 use Rattle.decorrelate.proofs.fill.Tie as tie
 
 abbrev invariant-loop : tie.invariant-loop
 invariant-loop words₀ from used i₀ words i =
-    (i ≤ policyWords) × (length words ≡ policyWords) × ((k : ℕ) → k < i → get_or words k 0 ≡ get_or (padded policyWords (take used from)) k 0)
+    (i ≤ policy_words) × (length words ≡ policy_words) × ((k : ℕ) → k < i → get_or words k 0 ≡ get_or (padded policy_words (take used from)) k 0)
 
 abbrev decreases-loop : tie.decreases-loop
-decreases-loop words₀ from used i₀ words i = policyWords - i
+decreases-loop words₀ from used i₀ words i = policy_words - i
 
 loop-holds : tie.Need-loop-init invariant-loop decreases-loop
 loop-holds c = (search rules, search rules, λ k h. absurd (omega arith))
@@ -55,8 +55,8 @@ returns c =
     let s = c.before.before.before.before in
     let l = c.before.loop in
     let ws = take s.args.used s.args.from.now in
-    let size : length (padded policyWords ws) ≡ policyWords = padded-size policyWords ws (omega (arith, length-take s.args.used s.args.from.now)) in
-    ext_get_or 0 l.words (padded policyWords ws) (omega arith) (λ k h. l.invariant.2 k (omega arith))
+    let size : length (padded policy_words ws) ≡ policy_words = padded_size policy_words ws (omega (arith, length-take s.args.used s.args.from.now)) in
+    ext_get_or 0 l.words (padded policy_words ws) (omega arith) (λ k h. l.invariant.2 k (omega arith))
 
 pub fill_spec : {M : Type 1} → statement M
 fill_spec =

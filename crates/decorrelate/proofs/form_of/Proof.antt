@@ -2,23 +2,23 @@
 use Prim.Native.Nat.{◌≤◌}
 use mathlib.Core.Path.{◌≡◌, subst, ◌∙◌}
 use borrow.Author.Rules.{rules}
-use Rattle.policy.specs.Words.{policyRows, rowLimit}
+use Rattle.policy.specs.Words.{policy_rows, row_limit}
 use Rattle.policy_text.specs.Editions.{rules}
 use Rattle.layout.specs.declared.Laid.{Laid}
 use Rattle.layout.specs.declared.Laid.TheVariants.{Rows, Over, NoRoom}
-use Rattle.decorrelate.specs.FormLaws.{Laying, laying, form-written, form-left}
+use Rattle.decorrelate.specs.FormLaws.{Laying, laying, form-written, form_left}
 use Rattle.decorrelate.proofs.form_of.Statement.{statement}
 use Rattle.decorrelate.proofs.form_of.Tie as tie
 
 -- The layout's answer, with room for the limit: the rows of the normal form, or that there are too many.
 laid : (c : tie.After-normal-form) (r : Laid) → c.normal-form.result ≡ r
-    → Laying rowLimit c.before.before.before.args.direction (rules c.before.before.before.args.edition (policyRows c.before.before.before.args.rows.now)) c.normal-form.last.1.1.1.0 r
+    → Laying row_limit c.before.before.before.args.direction (rules c.before.before.before.args.edition (policy_rows c.before.before.before.args.rows.now)) c.normal-form.last.1.1.1.0 r
 laid c r e =
     let s = c.before.before.before in
-    subst (Laying rowLimit s.args.direction (rules s.args.edition (policyRows s.args.rows.now)) c.normal-form.last.1.1.1.0) e
-    (laying rowLimit s.args.direction (rules s.args.edition (policyRows s.args.rows.now)) _ _ _ (search rules) c.normal-form.ensures)
+    subst (Laying row_limit s.args.direction (rules s.args.edition (policy_rows s.args.rows.now)) c.normal-form.last.1.1.1.0) e
+    (laying row_limit s.args.direction (rules s.args.edition (policy_rows s.args.rows.now)) _ _ _ (search rules) c.normal-form.ensures)
 
-few : (c : tie.After-laid) → c.laid.given.0.0 ≤ rowLimit
+few : (c : tie.After-laid) → c.laid.given.0.0 ≤ row_limit
 unfolding Laying
 few c = (laid c.before.before.before (Rows c.laid.given.0.0) c.laid.given.1).0
 
@@ -50,11 +50,11 @@ returns : tie.Need-returns
 returns c =
     let l = c.before.before.before.before in
     let n = l.laid.given.0.0 in
-    let w = form-written rowLimit rowLimit _ _ _ _ n (laid l.before.before.before (Rows n) l.laid.given.1) in
+    let w = form-written row_limit row_limit _ _ _ _ n (laid l.before.before.before (Rows n) l.laid.given.1) in
     (w.0, c.fill.ensures ∙ w.1)
 
 returns-2 : tie.Need-returns-2
-returns-2 c = form-left rowLimit rowLimit _ _ _ _ (laid c.before.before.before Over c.enum_told.given.1)
+returns-2 c = form_left row_limit row_limit _ _ _ _ (laid c.before.before.before Over c.enum_told.given.1)
 
 returns-3 : tie.Need-returns-3
 unfolding Laying

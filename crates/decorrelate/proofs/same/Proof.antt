@@ -3,8 +3,8 @@ use mathlib.Core.Path.{◌≡◌, subst}
 use mathlib.Core.Bool.{true}
 use mathlib.Core.Logic.{◌↔◌}
 use borrow.Author.Rules.{rules}
-use Rattle.policy.specs.Words.{policyRows}
-use Rattle.policy_text.specs.Editions.{editionSizes}
+use Rattle.policy.specs.Words.{policy_rows}
+use Rattle.policy_text.specs.Editions.{edition_sizes}
 use Rattle.layout.specs.declared.Laid.{Laid}
 use Rattle.layout.specs.declared.Laid.TheVariants.{Rows, Over, NoRoom}
 use Rattle.decorrelate.specs.Agree.{Agree}
@@ -15,12 +15,12 @@ use Rattle.decorrelate.proofs.same.Tie as tie
 -- What the difference's answer says of the policies.
 says : (c : tie.After-layout) (r : Laid) → c.layout.result ≡ r
     → (no_rows r ≡ true)
-    ↔ Agree (editionSizes c.before.before.before.before.before.args.edition) c.before.before.before.before.before.args.direction (policyRows c.before.before.before.before.before.args.first.now) (policyRows c.before.before.before.before.before.args.second.now)
+    ↔ Agree (edition_sizes c.before.before.before.before.before.args.edition) c.before.before.before.before.before.args.direction (policy_rows c.before.before.before.before.before.args.first.now) (policy_rows c.before.before.before.before.before.args.second.now)
 says c r e =
     let s = c.before.before.before.before.before in
     subst
-    (λ (q : Laid). (no_rows q ≡ true) ↔ Agree (editionSizes s.args.edition) s.args.direction (policyRows s.args.first.now) (policyRows s.args.second.now)) e
-    (answers_agree 0 (editionSizes s.args.edition) _ s.args.direction _ _ _ _ _ (search rules) c.layout.ensures c.before.before.highest.ensures)
+    (λ (q : Laid). (no_rows q ≡ true) ↔ Agree (edition_sizes s.args.edition) s.args.direction (policy_rows s.args.first.now) (policy_rows s.args.second.now)) e
+    (answers_agree 0 (edition_sizes s.args.edition) _ s.args.direction _ _ _ _ _ (search rules) c.layout.ensures c.before.before.highest.ensures)
 
 highest-requires : tie.Need-highest-requires
 highest-requires c κs = search rules

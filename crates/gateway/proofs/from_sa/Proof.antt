@@ -3,12 +3,12 @@ use mathlib.Core.Path.{◌≡◌, sym, ◌∙◌}
 use mathlib.Core.Bool.{true}
 use borrow.Author.Tests.{not-true, not-false}
 use Rattle.selectors.specs.declared.Direction.TheVariants.{Out, In}
-use Rattle.packet.specs.Read.{readPacket, readTrigger}
+use Rattle.packet.specs.Read.{read_packet, read_trigger}
 use Rattle.packet.specs.declared.Reading.TheVariants.{Readable}
-use Rattle.sad.specs.Pairs.{pairs, live, fitting, placeOf}
-use Rattle.sad.specs.PairsLaws.{live_at, live-nowhere, fitting-at}
+use Rattle.sad.specs.Pairs.{pairs, live, fitting, place_of}
+use Rattle.sad.specs.PairsLaws.{live_at, live_nowhere, fitting_at}
 use Rattle.sad.specs.declared.Place.TheVariants.{At}
-use Rattle.verdicts.specs.Calls.{shows, fromSaBy}
+use Rattle.verdicts.specs.Calls.{shows, from_sa_by}
 use Rattle.gateway.specs.TriggerLaws.{trigger-at}
 use borrow.Author.Rules.{rules}
 use Rattle.gateway.proofs.from_sa.Statement.{statement}
@@ -24,14 +24,14 @@ enum_told : tie.Need-enum-told
 enum_told c = search rules
 
 returns : tie.Need-returns
-unfolding fromSaBy
+unfolding from_sa_by
 returns c =
     let a = c.before.before.before.before.args in
-    rw (live-nowhere a.table.now a.protocol a.spi (sym c.before.before.place_of.ensures ∙ c.enum_told.given.1))
+    rw (live_nowhere a.table.now a.protocol a.spi (sym c.before.before.place_of.ensures ∙ c.enum_told.given.1))
 
 -- A pair that has a place is live.
 placed : (c : tie.After-known-told) → let a = c.before.before.before.before.before.args in
-    placeOf a.table.now a.protocol a.spi ≡ At c.before.found.given.0.0
+    place_of a.table.now a.protocol a.spi ≡ At c.before.found.given.0.0
 placed c = sym c.before.before.before.place_of.ensures ∙ c.before.found.given.1
 
 alive : (c : tie.After-known-told) → let a = c.before.before.before.before.before.args in
@@ -48,13 +48,13 @@ enum-told-2 : tie.Need-enum-told-2
 enum-told-2 c = search rules
 
 returns-2 : tie.Need-returns-2
-unfolding fromSaBy
+unfolding from_sa_by
 returns-2 c =
     rw (alive c.before.before.before, sym c.before.before.read.ensures ∙ c.enum-told2.given.1)
 
 -- A packet that was read, and whether its values are in the ranges.
 known : (c : tie.After-known-told2) → let k = c.before.before.before.before in
-    readPacket In k.before.before.before.before.before.args.bytes.now ≡ Readable c.before.reading.given.0.0
+    read_packet In k.before.before.before.before.before.args.bytes.now ≡ Readable c.before.reading.given.0.0
 known c = sym c.before.before.before.read.ensures ∙ c.before.reading.given.1
 
 fits-at-requires : tie.Need-fits-at-requires
@@ -65,10 +65,10 @@ tested : (c : tie.After-fits-at) → let r = c.before.before in let k = r.before
 tested c =
     let k = c.before.before.before.before.before.before in
     let a = k.before.before.before.before.before.args in
-    fitting-at a.table.now a.protocol a.spi _ (placed k) _ ∙ sym c.fits-at.ensures
+    fitting_at a.table.now a.protocol a.spi _ (placed k) _ ∙ sym c.fits-at.ensures
 
 returns-3 : tie.Need-returns-3
-unfolding fromSaBy
+unfolding from_sa_by
 returns-3 c =
     let t = c.before.before.before in
     rw (alive t.before.before.before.before, known t, tested c.before ∙ c.if1.true)
@@ -77,7 +77,7 @@ is-icmp-error-requires : tie.Need-is-icmp-error-requires
 is-icmp-error-requires c κs = search rules
 
 returns-4 : tie.Need-returns-4
-unfolding fromSaBy
+unfolding from_sa_by
 returns-4 c =
     let e = c.before.before in
     let t = e.before.before.before in
@@ -95,7 +95,7 @@ from-trigger-requires : tie.Need-from-trigger-requires
 from-trigger-requires c κs = search rules
 
 returns-5 : tie.Need-returns-5
-unfolding fromSaBy
+unfolding from_sa_by
 returns-5 c =
     let o = c.before.before in
     let e = o.before.before in
@@ -109,7 +109,7 @@ returns-5 c =
       sym o.before.is-icmp-error.ensures ∙ not-false _ o.if2.false,
       ← c.before.trigger.ensures,
     )
-    (c.from-trigger.ensures ∙ trigger-at a.table.now a.protocol a.spi _ (placed k) (readTrigger Out c.before.trigger.result.now))
+    (c.from-trigger.ensures ∙ trigger-at a.table.now a.protocol a.spi _ (placed k) (read_trigger Out c.before.trigger.result.now))
 
 pub from-sa-spec : {M : Type 1} → statement M
 from-sa-spec =

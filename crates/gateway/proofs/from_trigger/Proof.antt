@@ -1,7 +1,7 @@
 -- `gateway::from_trigger` meets its contract: a header that is not readable, that fits, and that does not. Assumes nothing.
 use mathlib.Core.Path.{◌≡◌, sym, ◌∙◌}
 use Rattle.selectors.specs.declared.Direction.TheVariants.{Out}
-use Rattle.packet.specs.Read.{readTrigger}
+use Rattle.packet.specs.Read.{read_trigger}
 use Rattle.packet.specs.declared.Reading.TheVariants.{Readable}
 use borrow.Author.Rules.{rules}
 use Rattle.gateway.proofs.from_trigger.Statement.{statement}
@@ -21,7 +21,7 @@ returns c = rw (sym c.before.before.read-trigger.ensures ∙ c.enum_told.given.1
 
 -- A header that was read.
 known : (c : tie.After-known-told)
-    → readTrigger Out c.before.before.before.before.before.args.header.now ≡ Readable c.before.reading.given.0.0
+    → read_trigger Out c.before.before.before.before.before.args.header.now ≡ Readable c.before.reading.given.0.0
 known c = sym c.before.before.before.read-trigger.ensures ∙ c.before.reading.given.1
 
 fits-at-requires : tie.Need-fits-at-requires

@@ -1,7 +1,7 @@
 -- `gateway::outbound` meets its contract: a packet that is not readable, or the answer of the search. Assumes nothing.
 use mathlib.Core.Path.{sym, ◌∙◌}
-use Rattle.verdicts.specs.Calls.{outboundBy}
-use Rattle.gateway.specs.Cached.{outboundCached}
+use Rattle.verdicts.specs.Calls.{outbound_by}
+use Rattle.gateway.specs.Cached.{outbound_cached}
 use borrow.Author.Rules.{rules}
 use Rattle.gateway.proofs.outbound.Statement.{statement}
 use Rattle.gateway.proofs.outbound.Tie as tie
@@ -16,7 +16,7 @@ enum_told : tie.Need-enum-told
 enum_told c = search rules
 
 returns : tie.Need-returns
-unfolding outboundCached outboundBy
+unfolding outbound_cached outbound_by
 returns c = rw (sym c.before.before.read.ensures ∙ c.enum_told.given.1)
 
 rows-of-requires : tie.Need-rows-of-requires
@@ -29,7 +29,7 @@ outbound-action-requires : tie.Need-outbound-action-requires
 outbound-action-requires c κs = search rules
 
 returns-2 : tie.Need-returns-2
-unfolding outboundCached outboundBy
+unfolding outbound_cached outbound_by
 returns-2 c =
     rw (
       sym c.before.before.before.before.before.before.before.before.read.ensures ∙ c.before.before.before.before.before.before.reading.given.1,

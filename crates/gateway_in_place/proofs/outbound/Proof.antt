@@ -1,8 +1,8 @@
 -- `gateway_in_place::outbound` meets its contract: a packet that is not readable, or the answer of the search. Assumes nothing.
 use mathlib.Core.Path.{refl, sym, ◌∙◌}
-use Rattle.spd_cache.specs.LentLaws.{cache-kept}
-use Rattle.verdicts.specs.Calls.{outboundBy}
-use Rattle.gateway.specs.Cached.{outboundCached}
+use Rattle.spd_cache.specs.LentLaws.{cache_kept}
+use Rattle.verdicts.specs.Calls.{outbound_by}
+use Rattle.gateway.specs.Cached.{outbound_cached}
 use borrow.Author.Rules.{rules}
 use Rattle.gateway_in_place.proofs.outbound.Statement.{statement}
 use Rattle.gateway_in_place.proofs.outbound.Tie as tie
@@ -17,9 +17,9 @@ enum_told : tie.Need-enum-told
 enum_told c = search rules
 
 returns : tie.Need-returns
-unfolding outboundCached outboundBy
+unfolding outbound_cached outbound_by
 returns c =
-    rw (sym c.before.before.read.ensures ∙ c.enum_told.given.1) (refl, sym (cache-kept c.before.before.before.before.before.before.args.cache.now c.before.before.before.lent2.given.0))
+    rw (sym c.before.before.read.ensures ∙ c.enum_told.given.1) (refl, sym (cache_kept c.before.before.before.before.before.before.args.cache.now c.before.before.before.lent2.given.0))
 
 rows-of-requires : tie.Need-rows-of-requires
 rows-of-requires c κs = search rules
@@ -31,7 +31,7 @@ outbound-action-requires : tie.Need-outbound-action-requires
 outbound-action-requires c κs = search rules
 
 returns-2 : tie.Need-returns-2
-unfolding outboundCached outboundBy
+unfolding outbound_cached outbound_by
 returns-2 c =
     rw (
       sym c.before.before.before.before.before.before.before.before.read.ensures ∙ c.before.before.before.before.before.before.reading.given.1,

@@ -1,15 +1,15 @@
 -- `gateway_script::empty` is safe and ends: the measure is what is left of the table. Assumes nothing.
 use Prim.Native.Nat.{◌-◌, ◌≤◌}
-use Rattle.sad.specs.Pairs.{tableWords}
+use Rattle.sad.specs.Pairs.{table_words}
 use borrow.Author.Rules.{rules}
 use Rattle.gateway_script.proofs.empty.Statement.{statement}
 use Rattle.gateway_script.proofs.empty.Tie as tie
 
 abbrev invariant-loop : tie.invariant-loop
-invariant-loop table₀ i₀ table i = i ≤ tableWords
+invariant-loop table₀ i₀ table i = i ≤ table_words
 
 abbrev decreases-loop : tie.decreases-loop
-decreases-loop table₀ i₀ table i = tableWords - i
+decreases-loop table₀ i₀ table i = table_words - i
 
 loop-holds : tie.Need-loop-init invariant-loop decreases-loop
 loop-holds c = search rules

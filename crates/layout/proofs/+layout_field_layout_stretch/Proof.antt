@@ -15,15 +15,15 @@ use Rattle.selectors.specs.Value.{number}
 use Rattle.selectors.proofs.Value.less.Reads as less-reads
 use Rattle.selectors.proofs.Value.next.Reads as next-reads
 use Rattle.agree.proofs.cutting.Reads as cutting-reads
-use Rattle.layout.specs.AlikeLaws.{cuts-at}
+use Rattle.layout.specs.AlikeLaws.{cuts_at}
 use Rattle.layout.specs.FormLaws.{values_length}
 use Rattle.layout.specs.StepsLaws.{words-next}
-use Rattle.selectors.specs.Words.{fieldCount, valuesFrom}
-use Rattle.policy.specs.Words.{rowWords}
+use Rattle.selectors.specs.Words.{field_count, values_from}
+use Rattle.policy.specs.Words.{row_words}
 use Rattle.layout.specs.Lists.{BranchAt}
-use Rattle.layout.specs.ListsLaws.{lists-within, branch-next}
-use Rattle.layout.specs.ProgressLaws.{Progress, progress_start, over-behind, over-so-far, laid_out, laid-last, laid-field, value-form, Room, room_for, turn-stretch, one_more}
-use Rattle.layout.specs.StretchesLaws.{over-told, stretch-again, stretch-empty, stretch-laid, stretch-fits}
+use Rattle.layout.specs.ListsLaws.{lists_within, branch-next}
+use Rattle.layout.specs.ProgressLaws.{Progress, progress_start, over-behind, over_so_far, laid_out, laid_last, laid-field, value-form, Room, room_for, turn_stretch, one_more}
+use Rattle.layout.specs.StretchesLaws.{over_told, stretch_again, stretch_empty, stretch_laid, stretch_fits}
 use Rattle.layout.proofs.+layout_field_layout_stretch.{statement}
 use Rattle.layout.proofs.+layout_field_layout_stretch.Tie.{close}
 use Rattle.layout.proofs.layout_field.Reads as layout-field
@@ -123,7 +123,7 @@ abbrev layout-field-Inv-loop : layout-field-lts.invariant-loop
 layout-field-Inv-loop first second task branch of-first of-second room₀ field top cuts other-cuts firsts seconds cutters kept₀ from₀ room kept from =
     (length room ≡ length room₀)
     × ((kept.next ≤ task.limit)
-    × ((number from ≤ number top) × Progress first second task (valuesFrom branch.point.words 0 branch.field) branch.field room kept (number from)))
+    × ((number from ≤ number top) × Progress first second task (values_from branch.point.words 0 branch.field) branch.field room kept (number from)))
 
 abbrev layout-field-μ-loop : layout-field-lts.decreases-loop
 layout-field-μ-loop first second task branch of-first of-second room₀ field top cuts other-cuts firsts seconds cutters kept₀ from₀ room kept from =
@@ -143,22 +143,22 @@ abbrev Gone : ℕ → Type 0
 Gone t = layout-field-lts.After-next (layout-field-claims t) (layout-field-at t) layout-field.Post layout-field-Inv-loop layout-field-μ-loop
 
 -- The part of the room behind the rows so far.
-room : (t : ℕ) (c : Begun t) → Room c.before.before.before.before.before.before.before.before.before.before.before.before.args.task.limit c.before.before.before.before.before.before.before.before.before.before.before.before.args.branch.field (c.loop.auto.next * rowWords) c.loop.room
+room : (t : ℕ) (c : Begun t) → Room c.before.before.before.before.before.before.before.before.before.before.before.before.args.task.limit c.before.before.before.before.before.before.before.before.before.before.before.before.args.branch.field (c.loop.auto.next * row_words) c.loop.room
 room t c = let s = c.before.before.before.before.before.before.before.before.before.before.before.before in room_for _ _ _ _ _ s.requires.1.0.0 c.loop.invariant.1.0 s.requires.1.1 c.loop.invariant.0
 
 -- The room is as long as before when that part is back.
 back : (t : ℕ) (c : Stretched t)
-    → length (put_mid (c.before.before.before.before.before.before.loop.auto.next * rowWords) (length c.before.before.before.before.before.before.loop.room - c.before.before.before.before.before.before.loop.auto.next * rowWords) c.before.before.before.before.before.before.loop.room c.layout-stretch.new.1.1.1.1.1.1.1.0)
+    → length (put_mid (c.before.before.before.before.before.before.loop.auto.next * row_words) (length c.before.before.before.before.before.before.loop.room - c.before.before.before.before.before.before.loop.auto.next * row_words) c.before.before.before.before.before.before.loop.room c.layout-stretch.new.1.1.1.1.1.1.1.0)
     ≡ length c.before.before.before.before.before.before.loop.room
 back t c =
     let l = c.before.before.before.before.before.before.loop in
-    same_len_mid (l.auto.next * rowWords) (length l.room - l.auto.next * rowWords) l.room c.layout-stretch.new.1.1.1.1.1.1.1.0
+    same_len_mid (l.auto.next * row_words) (length l.room - l.auto.next * row_words) l.room c.layout-stretch.new.1.1.1.1.1.1.1.0
     c.layout-stretch.auto.1.1.1.1.1.1.1.0
 
 -- After `place_stretch` the loop has come to the value behind the interval.
 placed : (t : ℕ) (c : Placed t)
     → (let s = c.before.before.before.before.before.before.before.before.before.before.before.before.before.before.before.before.before.before.before.before.before.before.before.before in
-    Progress s.args.first.now s.args.second.now s.args.task (valuesFrom s.args.branch.point.words 0 s.args.branch.field) s.args.branch.field
+    Progress s.args.first.now s.args.second.now s.args.task (values_from s.args.branch.point.words 0 s.args.branch.field) s.args.branch.field
     c.place-stretch.new.0 c.place-stretch.result (number c.before.before.before.before.before.before.before.before.before.interval-end.result + 1))
 placed t c =
     let y = c.before.before.before.before.before.before in
@@ -166,7 +166,7 @@ placed t c =
     let l = y.before.before.before.before.before.before in
     let s = l.before.before.before.before.before.before.before.before.before.before.before.before in
     let r = room t l in
-    turn-stretch _ _ _ _ _ s.requires.1.0.0 _ _ e.reaches e.alike _ _ _ _ _ _ s.args.task.limit l.loop.invariant.1.1.1 (omega arith)
+    turn_stretch _ _ _ _ _ s.requires.1.0.0 _ _ e.reaches e.alike _ _ _ _ _ _ s.args.task.limit l.loop.invariant.1.1.1 (omega arith)
     (rw y.layout-stretch.auto.1.1.1.1.1.1.1.0 r.enough) _ (sym c.before.before.before.is-over.ensures ∙ c.before.before.if1.false) y.layout-stretch.ensures c.place-stretch.ensures
 
 -- The next turn's first value is one more than the interval's last, which is below the field's highest.
@@ -176,7 +176,7 @@ further : (t : ℕ) (c : Gone t)
 further t c =
     let i = c.before.before.before.before.before.before.before.before.before.before.before.before.before.before.before.before in
     let v = i.before.before.before.before.before.before.before.before.before.value-at in
-    let b : Words v.result = record { upper_fits = omega (arith, v.type-inv); lower-fits = omega (arith, v.type-inv) } in
+    let b : Words v.result = record { upper_fits = omega (arith, v.type-inv); lower_fits = omega (arith, v.type-inv) } in
     let w = number_bound v.result b in
     let g = ltb-true (number i.interval-end.result) (number v.result) (sym c.before.before.less.ensures ∙ not-false _ c.before.if3.false) in
     (one_more (2 ^ 128) _ _ _ c.next.ensures g w, g)
@@ -208,8 +208,8 @@ layout-field-interval-end-requires t c κs =
     let b = s.requires.1.0.1 in (
       (f, l.loop.invariant.1.1.0),
       (
-        cuts-at _ _ _ _ (values_length _ 0 _) f _ _ b.of-first _ _ (l.before.before.before.cutting.ensures b.of-first.fits f),
-        cuts-at _ _ _ _ (values_length _ 0 _) f _ _ b.of-second _ _ (l.before.cutting2.ensures b.of-second.fits f),
+        cuts_at _ _ _ _ (values_length _ 0 _) f _ _ b.of-first _ _ (l.before.before.before.cutting.ensures b.of-first.fits f),
+        cuts_at _ _ _ _ (values_length _ 0 _) f _ _ b.of-second _ _ (l.before.cutting2.ensures b.of-second.fits f),
       ),
     )
 
@@ -245,9 +245,9 @@ layout-field-returns t c =
     let y = c.before.before.before.before in
     let l = y.before.before.before.before.before.before in
     let s = l.before.before.before.before.before.before.before.before.before.before.before.before in
-    over-behind s.args.first.now s.args.second.now s.args.task (valuesFrom s.args.branch.point.words 0 s.args.branch.field) s.args.branch.field s.requires.1.0.0
+    over-behind s.args.first.now s.args.second.now s.args.task (values_from s.args.branch.point.words 0 s.args.branch.field) s.args.branch.field s.requires.1.0.0
     s.args.task.limit (number l.loop.from) (omega (arith, l.loop.invariant.1.1.0, ap number l.before.before.before.before.before.before.value-at.ensures))
-    (y.layout-stretch.ensures.over (over-told _ (sym c.before.is-over.ensures ∙ c.if1.true))) _
+    (y.layout-stretch.ensures.over (over_told _ (sym c.before.is-over.ensures ∙ c.if1.true))) _
 
 layout-field-place-stretch-requires : (t : ℕ) → layout-field-lts.Need-place-stretch-requires (layout-field-claims t) (layout-field-at t) layout-field.Post layout-field-Inv-loop layout-field-μ-loop
 layout-field-place-stretch-requires t c κs =
@@ -256,7 +256,7 @@ layout-field-place-stretch-requires t c κs =
     let s = l.before.before.before.before.before.before.before.before.before.before.before.before in
     let r = room t l in (
       (s.requires.1.0.0, l.loop.invariant.1.1.1.ordered),
-      λ k e. rw (back t y) (stretch-fits s.args.task.limit _ _ _ _ _ _ y.layout-stretch.ensures l.loop.auto.next _ (omega (arith, r.start)) k e),
+      λ k e. rw (back t y) (stretch_fits s.args.task.limit _ _ _ _ _ _ y.layout-stretch.ensures l.loop.auto.next _ (omega (arith, r.start)) k e),
     )
 
 layout-field-same-length-2 : (t : ℕ) → layout-field-lts.Need-same-length-2 (layout-field-claims t) (layout-field-at t) layout-field.Post layout-field-Inv-loop layout-field-μ-loop
@@ -266,7 +266,7 @@ layout-field-returns-2 : (t : ℕ) → layout-field-lts.Need-returns-2 (layout-f
 layout-field-returns-2 t c =
     let p = c.before.before.before.before in
     let i = p.before.before.before.before.before.before.before.before.before in
-    over-so-far _ _ _ _ _ p.before.before.before.before.before.before.before.before.before.before.before.before.before.before.before.before.before.before.before.before.before.before.before.before.requires.1.0.0 _ _ _ _ (placed t p) (omega (arith, i.interval-end.ensures.within, ap number i.before.before.before.before.before.before.before.before.before.value-at.ensures)) c.if2.true _
+    over_so_far _ _ _ _ _ p.before.before.before.before.before.before.before.before.before.before.before.before.before.before.before.before.before.before.before.before.before.before.before.before.requires.1.0.0 _ _ _ _ (placed t p) (omega (arith, i.interval-end.ensures.within, ap number i.before.before.before.before.before.before.before.before.before.value-at.ensures)) c.if2.true _
 
 layout-field-less-requires : (t : ℕ) → layout-field-lts.Need-less-requires (layout-field-claims t) (layout-field-at t) layout-field.Post layout-field-Inv-loop layout-field-μ-loop
 layout-field-less-requires t c κs = search rules
@@ -306,16 +306,16 @@ layout-stretch-joined-requires : (t : ℕ) → layout-stretch-lts.Need-joined-re
 layout-stretch-joined-requires t c κs = c.before.before.before.requires.1.0
 
 layout-stretch-returns : (t : ℕ) → layout-stretch-lts.Need-returns (layout-stretch-claims t) (layout-stretch-at t) layout-stretch.Post
-layout-stretch-returns t c = stretch-again _ _ _ _ _ _ (c.before.joined.ensures c.if1.true)
+layout-stretch-returns t c = stretch_again _ _ _ _ _ _ (c.before.joined.ensures c.if1.true)
 
 layout-stretch-with-value-requires : (t : ℕ) → layout-stretch-lts.Need-with-value-requires (layout-stretch-claims t) (layout-stretch-at t) layout-stretch.Post
 layout-stretch-with-value-requires t c κs = search rules
 
 layout-stretch-narrow-requires : (t : ℕ) → layout-stretch-lts.Need-narrow-requires (layout-stretch-claims t) (layout-stretch-at t) layout-stretch.Post
-layout-stretch-narrow-requires t c κs = let b = c.before.before.before.before.before.before.before.requires.1.0 in ((b.0, lists-within _ _ _ _ _ _ b.1.of-first), refl)
+layout-stretch-narrow-requires t c κs = let b = c.before.before.before.before.before.before.before.requires.1.0 in ((b.0, lists_within _ _ _ _ _ _ b.1.of-first), refl)
 
 layout-stretch-narrow-requires-2 : (t : ℕ) → layout-stretch-lts.Need-narrow-requires-2 (layout-stretch-claims t) (layout-stretch-at t) layout-stretch.Post
-layout-stretch-narrow-requires-2 t c κs = let b = c.before.before.before.before.before.before.before.before.before.requires.1.0 in ((b.0, lists-within _ _ _ _ _ _ b.1.of-second), refl)
+layout-stretch-narrow-requires-2 t c κs = let b = c.before.before.before.before.before.before.before.before.before.requires.1.0 in ((b.0, lists_within _ _ _ _ _ _ b.1.of-second), refl)
 
 -- Where both lists are narrowed: the branch is one at the next field.
 abbrev Narrowed : ℕ → Type 0
@@ -337,7 +337,7 @@ layout-stretch-leaf-requires t c κs =
     let n = c.before.before.before.before in
     let s = n.before.before.before.before.before.before.before.before.before.before in
     let w = words-next s.args.task.limit s.args.branch.field s.requires.1.0.0 in
-    (omega (arith, s.requires.1.1), behind t n fieldCount (sym c.before.before.before.if2.true))
+    (omega (arith, s.requires.1.1), behind t n field_count (sym c.before.before.before.if2.true))
 
 layout-stretch-stretch-of-requires : (t : ℕ) → layout-stretch-lts.Need-stretch-of-requires (layout-stretch-claims t) (layout-stretch-at t) layout-stretch.Post
 layout-stretch-stretch-of-requires t c κs = search rules
@@ -350,8 +350,8 @@ layout-stretch-returns-2 t c =
     let n = c.before.before.before.before.before.before.before.before in
     let s = n.before.before.before.before.before.before.before.before.before.before in
     rw c.stretch-of.ensures
-    (stretch-laid _ _ _ _ _ _ _
-    (laid-last _ _ s.args.task _ _ _ _ s.requires.1.0.1.sized s.requires.1.0.0 n.before.before.before.before.with_value.ensures _ _ _ c.before.before.before.before.before.before.before.if2.true c.before.before.before.leaf.ensures))
+    (stretch_laid _ _ _ _ _ _ _
+    (laid_last _ _ s.args.task _ _ _ _ s.requires.1.0.1.sized s.requires.1.0.0 n.before.before.before.before.with_value.ensures _ _ _ c.before.before.before.before.before.before.before.if2.true c.before.before.before.leaf.ensures))
 
 layout-stretch-known-alike-requires : (t : ℕ) → layout-stretch-lts.Need-known-alike-requires (layout-stretch-claims t) (layout-stretch-at t) layout-stretch.Post
 layout-stretch-known-alike-requires t c κs =
@@ -363,7 +363,7 @@ layout-stretch-returns-3 : (t : ℕ) → layout-stretch-lts.Need-returns-3 (layo
 layout-stretch-returns-3 t c =
     let n = c.before.before.before.before.before in
     let s = n.before.before.before.before.before.before.before.before.before.before in
-    stretch-empty _ _ _ _ _ _
+    stretch_empty _ _ _ _ _ _
     (sym (value-form _ _ s.args.task _ _ _ _ s.requires.1.0.1.sized s.requires.1.0.0 n.before.before.before.before.with_value.ensures) ∙ c.before.known_alike.ensures c.if3.true)
 
 layout-stretch-layout-field-requires : (t : ℕ) → layout-stretch-lts.Need-layout-field-requires (layout-stretch-claims t) (layout-stretch-at t) layout-stretch.Post
@@ -383,7 +383,7 @@ layout-stretch-returns-4 t c =
     let n = c.before.before.before.before.before.before.before.before.before.before.before.before in
     let s = n.before.before.before.before.before.before.before.before.before.before in
     rw c.stretch-of2.ensures
-    (stretch-laid _ _ _ _ _ _ _
+    (stretch_laid _ _ _ _ _ _ _
     (laid-field _ _ s.args.task _ _ _ _ s.requires.1.0.1.sized s.requires.1.0.0 n.before.before.before.before.with_value.ensures _ _ _ c.before.before.before.layout-field.ensures))
 
 pub +layout-field-layout-stretch-spec : {M : Type 1} → statement M

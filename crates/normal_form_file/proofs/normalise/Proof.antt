@@ -4,27 +4,27 @@ use native.Mathlib.Omega.{arith}
 use mathlib.Core.Path.{◌≡◌, refl, sym, ap, subst, ◌∙◌}
 use mathlib.Core.List.{List}
 use lib.ListN.{length, length-take}
-use Rattle.policy.specs.Words.{rowWords, policyRows, rowLimit}
+use Rattle.policy.specs.Words.{row_words, policy_rows, row_limit}
 use Rattle.policy_text.specs.declared.File.{File}
 use Rattle.policy_text.specs.declared.File.TheVariants.{Rows, Refused}
 use Rattle.policy_parse.specs.TakenLaws.{Taken, Told, told}
-use Rattle.normal_form_file.specs.Normalise.{normalised, normalisedBytes}
+use Rattle.normal_form_file.specs.Normalise.{normalised, normalised_bytes}
 use borrow.Author.Rules.{rules}
 use Rattle.normal_form_file.proofs.normalise.Statement.{statement}
 use Rattle.normal_form_file.proofs.normalise.Tie as tie
 
 -- What the parser's answer says of the file.
-says : (c : tie.After-parse-policy) (f : File) → c.parse-policy.result ≡ f → Told rowLimit c.before.before.before.before.args.bytes.now c.parse-policy.new.1.0 f
+says : (c : tie.After-parse-policy) (f : File) → c.parse-policy.result ≡ f → Told row_limit c.before.before.before.before.args.bytes.now c.parse-policy.new.1.0 f
 says c f e =
     let s = c.before.before.before.before.args.bytes.now in
-    subst (λ (room : List ℕ). Told rowLimit s room f) (sym c.parse-policy.ensures.1) (told rowLimit s _ f (sym e ∙ c.parse-policy.ensures.0))
+    subst (λ (room : List ℕ). Told row_limit s room f) (sym c.parse-policy.ensures.1) (told row_limit s _ f (sym e ∙ c.parse-policy.ensures.0))
 
-got : (c : tie.After-file) → Taken rowLimit c.before.before.before.before.before.before.args.bytes.now c.file.given.0.0 c.file.given.0.1.0 c.before.before.parse-policy.new.1.0
+got : (c : tie.After-file) → Taken row_limit c.before.before.before.before.before.before.args.bytes.now c.file.given.0.0 c.file.given.0.1.0 c.before.before.parse-policy.new.1.0
 unfolding Told
 got c = says c.before.before (Rows c.file.given.0.0 c.file.given.0.1.0) c.file.given.1
 
-fits : (c : tie.After-known-told) → c.before.file.given.0.1.0 * rowWords ≤ length c.before.before.before.parse-policy.new.1.0
-fits c = (got c.before).words-fit
+fits : (c : tie.After-known-told) → c.before.file.given.0.1.0 * row_words ≤ length c.before.before.before.parse-policy.new.1.0
+fits c = (got c.before).words_fit
 
 parse-policy-requires : tie.Need-parse-policy-requires
 parse-policy-requires c κs = search rules
@@ -56,8 +56,8 @@ returns c =
     let s = k.before.before.before.before.before.before in
     let e = c.before.before.print-form.ensures in
     let t = got k in (
-      e.0 ∙ ap (normalised rowLimit s.args.direction (length s.args.out.now)) (sym t.is),
-      e.1 ∙ ap (normalisedBytes rowLimit s.args.direction s.args.out.now) (sym t.is),
+      e.0 ∙ ap (normalised row_limit s.args.direction (length s.args.out.now)) (sym t.is),
+      e.1 ∙ ap (normalised_bytes row_limit s.args.direction s.args.out.now) (sym t.is),
     )
 
 returns-2 : tie.Need-returns-2

@@ -5,10 +5,10 @@ use mathlib.Core.Path.{ap, sym, ◌∙◌}
 use mathlib.Core.List.{List}
 use lib.ListN.{length, length-take}
 use borrow.Author.Rules.{rules}
-use Rattle.policy.specs.Words.{policyRows, rowLimit}
+use Rattle.policy.specs.Words.{policy_rows, row_limit}
 use Rattle.policy_text.specs.Editions.{rules}
-use Rattle.policy_print.specs.Printing.{printedIn, printedRoom}
-use Rattle.decorrelate.specs.FormLaws.{form-over}
+use Rattle.policy_print.specs.Printing.{printed_in, printed_room}
+use Rattle.decorrelate.specs.FormLaws.{form_over}
 use Rattle.decorrelate.specs.RoomLaws.{Held, held}
 use Rattle.normal_form_file.specs.StepsLaws.{answered, printed-form, printing, too_large}
 use Rattle.normal_form_file.proofs.print_form.Statement.{statement}
@@ -16,9 +16,9 @@ use Rattle.normal_form_file.proofs.print_form.Tie as tie
 
 -- The normal form stands in the room.
 own : (c : tie.After-form)
-    → Held rowLimit rowLimit c.before.before.before.before.before.before.args.direction (rules c.before.before.before.before.before.before.args.edition (policyRows c.before.before.before.before.before.before.args.policy.now))
+    → Held row_limit row_limit c.before.before.before.before.before.before.args.direction (rules c.before.before.before.before.before.before.args.edition (policy_rows c.before.before.before.before.before.before.args.policy.now))
     c.form.given.0.0 c.before.before.form_of.last.1.1.1.0
-own c = let f = c.before.before.form_of in held rowLimit rowLimit (omega arith) _ _ _ _ _ (sym f.ensures.0 ∙ c.form.given.1) f.ensures.1
+own c = let f = c.before.before.form_of in held row_limit row_limit (omega arith) _ _ _ _ _ (sym f.ensures.0 ∙ c.form.given.1) f.ensures.1
 
 form-of-requires : tie.Need-form-of-requires
 form-of-requires c κs = search rules
@@ -49,20 +49,20 @@ returns c =
     let l = c.before.before.before.before.before.before in
     let s = l.before.before.before.before.before.before in
     let d = s.args.direction in
-    let rs = rules s.args.edition (policyRows s.args.policy.now) in
+    let rs = rules s.args.edition (policy_rows s.args.policy.now) in
     let out = s.args.out.now in
     let h = own l in
     let e = c.before.before.print-rows.ensures in
     let f = printed-form d rs _ h.front in
-    let p = printing rowLimit d rs out (omega (arith, h.few, h.rows)) in
-    (e.0 ∙ ap (λ (t : List ℕ). answered (printedIn (length out) t)) f ∙ p.0, e.1 ∙ ap (printedRoom out) f ∙ p.1)
+    let p = printing row_limit d rs out (omega (arith, h.few, h.rows)) in
+    (e.0 ∙ ap (λ (t : List ℕ). answered (printed_in (length out) t)) f ∙ p.0, e.1 ∙ ap (printed_room out) f ∙ p.1)
 
 returns-2 : tie.Need-returns-2
 returns-2 c =
     let f = c.before.before.form_of in
     let s = c.before.before.before.before.before.before in
-    let rs = rules s.args.edition (policyRows s.args.policy.now) in
-    too_large rowLimit s.args.direction rs s.args.out.now (form-over rowLimit s.args.direction rs (sym f.ensures.0 ∙ c.enum_told.given.1))
+    let rs = rules s.args.edition (policy_rows s.args.policy.now) in
+    too_large row_limit s.args.direction rs s.args.out.now (form_over row_limit s.args.direction rs (sym f.ensures.0 ∙ c.enum_told.given.1))
 
 pub print-form-spec : {M : Type 1} → statement M
 print-form-spec =

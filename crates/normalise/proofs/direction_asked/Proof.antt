@@ -1,14 +1,14 @@
 -- `normalise::direction_asked` meets its contract: by the two words. Assumes nothing.
 use mathlib.Core.Path.{◌≡◌, sym, ◌∙◌}
 use mathlib.Core.Bool.{false}
-use Rattle.policy_text.specs.Bytes.{sameBytes}
-use Rattle.policy_text.specs.Format.{outWord}
+use Rattle.policy_text.specs.Bytes.{are_same_bytes}
+use Rattle.policy_text.specs.Format.{out_word}
 use borrow.Author.Rules.{rules}
 use Rattle.normalise.proofs.direction_asked.Statement.{statement}
 use Rattle.normalise.proofs.direction_asked.Tie as tie
 
 -- What the first test said, where it failed.
-not-out : (c : tie.Else1) → sameBytes c.before.before.before.before.args.word.now outWord ≡ false
+not-out : (c : tie.Else1) → are_same_bytes c.before.before.before.before.args.word.now out_word ≡ false
 not-out c = sym c.before.same.ensures ∙ c.if1.false
 
 slice-aggregate-same : tie.Need-slice-aggregate-same

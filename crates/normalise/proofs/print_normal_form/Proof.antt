@@ -3,24 +3,24 @@ use Prim.Native.Nat.{◌≤◌}
 use native.Mathlib.Omega.{arith}
 use mathlib.Core.Path.{subst}
 use lib.ListN.{length, length-take}
-use Rattle.policy.specs.Words.{rowLimit}
-use Rattle.policy_text.specs.Editions.{parsePolicy}
+use Rattle.policy.specs.Words.{row_limit}
+use Rattle.policy_text.specs.Editions.{parse_policy}
 use Rattle.normal_form_file.specs.declared.Normalised.TheVariants.{Printed}
-use Rattle.normalise.specs.RoomLaws.{Answered, printed-within, printed-file}
+use Rattle.normalise.specs.RoomLaws.{Answered, printed_within, printed_file}
 use borrow.Author.Rules.{rules}
 use Rattle.normalise.proofs.print_normal_form.Statement.{statement}
 use Rattle.normalise.proofs.print_normal_form.Tie as tie
 
 -- What was answered, where it is a print.
 printed : (c : tie.After-known-told)
-    → Answered c.before.before.before.before.before.before.args.direction (parsePolicy rowLimit c.before.before.before.before.before.before.args.policy.now) c.before.before.before.normal-form.new.1.1.0 (Printed c.before.answer.given.0.0)
+    → Answered c.before.before.before.before.before.before.args.direction (parse_policy row_limit c.before.before.before.before.before.before.args.policy.now) c.before.before.before.normal-form.new.1.1.0 (Printed c.before.answer.given.0.0)
 printed c =
     let a = c.before.before.before.before.before.before.args in
     let n = c.before.before.before.normal-form in
-    subst (Answered a.direction (parsePolicy rowLimit a.policy.now) n.new.1.1.0) c.before.answer.given.1 n.ensures.1
+    subst (Answered a.direction (parse_policy row_limit a.policy.now) n.new.1.1.0) c.before.answer.given.1 n.ensures.1
 
 fits : (c : tie.After-known-told) → c.before.answer.given.0.0 ≤ length c.before.before.before.normal-form.new.1.1.0
-fits c = printed-within _ _ _ _ (printed c)
+fits c = printed_within _ _ _ _ (printed c)
 
 normal-form-requires : tie.Need-normal-form-requires
 normal-form-requires c κs = search rules
@@ -35,7 +35,7 @@ slice-aggregate-write-file : tie.Need-slice-aggregate-write-file
 slice-aggregate-write-file c = let h = fits c.before in simp length-take (omega arith)
 
 write-file-requires : tie.Need-write-file-requires
-write-file-requires c κs = printed-file _ _ _ _ (printed c.before)
+write-file-requires c κs = printed_file _ _ _ _ (printed c.before)
 
 refuse-requires : tie.Need-refuse-requires
 refuse-requires c κs = c.before.normal-form.ensures.0

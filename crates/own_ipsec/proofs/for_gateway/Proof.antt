@@ -5,7 +5,7 @@ use lib.Dec.{eqb}
 use borrow.Author.Tests.{not-true, not-false}
 use Rattle.selectors.specs.Value.{number}
 use Rattle.selectors.specs.ValueLaws.{number-lower}
-use Rattle.verdicts.specs.Calls.{forGateway}
+use Rattle.verdicts.specs.Calls.{for_gateway}
 use borrow.Author.Rules.{rules}
 use Rattle.own_ipsec.proofs.for_gateway.Statement.{statement}
 use Rattle.own_ipsec.proofs.for_gateway.Tie as tie
@@ -19,7 +19,7 @@ local-is : (c : tie.After-same) → let a = c.before.before.before.args in
 local-is c = sym (c.same.ensures ∙ ap (eqb (number c.before.before.before.args.packet.selectors.local)) (number-lower _ refl))
 
 returns : tie.Need-returns
-unfolding forGateway
+unfolding for_gateway
 returns c = rw (local-is c.before ∙ not-true _ c.if1.true)
 
 -- Past the first test the destination is the gateway.
@@ -30,14 +30,14 @@ has-protocol-requires : tie.Need-has-protocol-requires
 has-protocol-requires c κs = search rules
 
 returns-2 : tie.Need-returns-2
-unfolding forGateway
+unfolding for_gateway
 returns-2 c = rw (own c.before.before, sym c.before.has-protocol.ensures ∙ c.if2.true)
 
 has-protocol-requires-2 : tie.Need-has-protocol-requires-2
 has-protocol-requires-2 c κs = search rules
 
 returns-3 : tie.Need-returns-3
-unfolding forGateway
+unfolding for_gateway
 returns-3 c =
     rw (own c.before.before.before, sym c.before.before.has-protocol.ensures ∙ c.before.if2.false)
     c.has-protocol2.ensures

@@ -4,8 +4,8 @@ use native.Mathlib.Omega.{arith}
 use mathlib.Core.Path.{◌≡◌, sym, ◌∙◌}
 use mathlib.Core.Bool.{false}
 use borrow.Author.Tests.{not-true, not-false, lt-ltb, le-ltb}
-use Rattle.verdicts.specs.Calls.{espBytes, esp, fragment, toIpsec}
-use Rattle.own_ipsec.specs.OwnLaws.{least-bytes}
+use Rattle.verdicts.specs.Calls.{esp_bytes, esp, fragment, to_ipsec}
+use Rattle.own_ipsec.specs.OwnLaws.{least_bytes}
 use borrow.Author.Rules.{rules}
 use Rattle.own_ipsec.proofs.to_ipsec.Statement.{statement}
 use Rattle.own_ipsec.proofs.to_ipsec.Tie as tie
@@ -14,7 +14,7 @@ is-fragment-requires : tie.Need-is-fragment-requires
 is-fragment-requires c κs = search rules
 
 returns : tie.Need-returns
-unfolding toIpsec
+unfolding to_ipsec
 returns c = rw (sym c.before.is-fragment.ensures ∙ c.if1.true)
 
 -- Past the first test it is no fragment.
@@ -28,13 +28,13 @@ least-upper-requires : tie.Need-least-upper-requires
 least-upper-requires c κs = search rules
 
 returns-2 : tie.Need-returns-2
-unfolding toIpsec
+unfolding to_ipsec
 returns-2 c = rw (whole c.before.before.before, ← c.before.before.upper-length.ensures, ← c.before.least-upper.ensures, lt-ltb _ _ c.if2.true)
 
 spi-of-requires : tie.Need-spi-of-requires
 spi-of-requires c κs =
     let s = c.before.before.before.before.before.before in
-    let l : espBytes ≤ c.before.least-upper.result = rw c.before.least-upper.ensures (least-bytes (esp s.args.packet)) in
+    let l : esp_bytes ≤ c.before.least-upper.result = rw c.before.least-upper.ensures (least_bytes (esp s.args.packet)) in
     omega (arith, c.if2.false, c.before.before.upper-length.ensures)
 
 protocol-of-requires : tie.Need-protocol-of-requires
@@ -44,7 +44,7 @@ is-live-requires : tie.Need-is-live-requires
 is-live-requires c κs = search rules
 
 returns-3 : tie.Need-returns-3
-unfolding toIpsec
+unfolding to_ipsec
 returns-3 c =
     rw (
       whole c.before.before.before.before.before.before.before,
@@ -61,7 +61,7 @@ cast-t11 : tie.Need-overflow-cast-t11
 cast-t11 c = search rules
 
 returns-4 : tie.Need-returns-4
-unfolding toIpsec
+unfolding to_ipsec
 returns-4 c =
     rw (
       whole c.before.before.before.before.before.before.before,

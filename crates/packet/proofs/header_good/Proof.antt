@@ -2,15 +2,15 @@
 use native.Mathlib.Omega.{arith}
 use borrow.Author.Tests.{le-leb, lt-leb, eq-eqb, ne_eqb}
 use lib.ListN.{length}
-use Rattle.packet.specs.Header.{shortestHeader, shortestField, ipVersion, version, headerField}
-use Rattle.packet.specs.Read.{headerGood}
+use Rattle.packet.specs.Header.{shortest_header, shortest_field, ip_version, version, header_field}
+use Rattle.packet.specs.Read.{header_good}
 use borrow.Author.Rules.{rules}
 use Rattle.packet.proofs.header_good.Statement.{statement}
 use Rattle.packet.proofs.header_good.Tie as tie
 
 returns : tie.Need-returns
-unfolding headerGood
-returns c = rw (lt-leb shortestHeader (length c.before.before.args.bytes.now) (omega arith))
+unfolding header_good
+returns c = rw (lt-leb shortest_header (length c.before.before.args.bytes.now) (omega arith))
 
 shared-slice-read-wide : tie.Need-shared-slice-read-wide
 shared-slice-read-wide c = search rules
@@ -19,28 +19,28 @@ wide-requires : tie.Need-wide-requires
 wide-requires c κs = search rules
 
 returns-2 : tie.Need-returns-2
-unfolding headerGood
+unfolding header_good
 returns-2 c =
     let p = c.before.before.before.before.before.args.bytes.now in
-    rw (le-leb shortestHeader (length p) (omega arith), ne_eqb (version p) ipVersion (λ e. omega arith))
+    rw (le-leb shortest_header (length p) (omega arith), ne_eqb (version p) ip_version (λ e. omega arith))
 
 header-end-requires : tie.Need-header-end-requires
 header-end-requires c κs = search rules
 
 returns-3 : tie.Need-returns-3
-unfolding headerGood
+unfolding header_good
 returns-3 c =
     let p = c.before.before.before.before.before.before.before.args.bytes.now in
-    rw (le-leb shortestHeader (length p) (omega arith), eq-eqb (version p) ipVersion (omega arith), lt-leb shortestField (headerField p) (omega arith))
+    rw (le-leb shortest_header (length p) (omega arith), eq-eqb (version p) ip_version (omega arith), lt-leb shortest_field (header_field p) (omega arith))
 
 total-length-requires : tie.Need-total-length-requires
 total-length-requires c κs = search rules
 
 returns-4 : tie.Need-returns-4
-unfolding headerGood
+unfolding header_good
 returns-4 c =
     let p = c.before.before.before.before.before.before.before.before.args.bytes.now in
-    rw (le-leb shortestHeader (length p) (omega arith), eq-eqb (version p) ipVersion (omega arith), le-leb shortestField (headerField p) (omega arith))
+    rw (le-leb shortest_header (length p) (omega arith), eq-eqb (version p) ip_version (omega arith), le-leb shortest_field (header_field p) (omega arith))
     (rw (c.before.before.header-end.ensures, c.total-length.ensures))
 
 pub header-good-spec : {M : Type 1} → statement M

@@ -3,8 +3,8 @@ use native.Mathlib.Omega.{arith}
 use mathlib.Core.Path.{◌≡◌, refl, sym, ap, ◌∙◌}
 use borrow.Author.Tests.{ne_eqb}
 use Rattle.packet.specs.Header.{protocol}
-use Rattle.packet.specs.Read.{value, hasPorts}
-use Rattle.packet.specs.StepsLaws.{shown-later, shown-ports, shown-few-ports, shown-type, shown-few-type, shown-other, remote-local}
+use Rattle.packet.specs.Read.{value, carries_ports}
+use Rattle.packet.specs.StepsLaws.{shown_later, shown-ports, shown_few-ports, shown_type, shown_few_type, shown_other, remote-local}
 use borrow.Author.Rules.{rules}
 use Rattle.packet.proofs.ports_at.Statement.{statement}
 use Rattle.packet.proofs.ports_at.Tie as tie
@@ -15,7 +15,7 @@ fragment-offset-requires c κs = search rules
 returns : tie.Need-returns
 returns c =
     let a = c.before.before.before.args in
-    rw (shown-later a.bytes.now a.end (λ e. omega arith)) (refl, refl)
+    rw (shown_later a.bytes.now a.end (λ e. omega arith)) (refl, refl)
 
 header-end-requires : tie.Need-header-end-requires
 header-end-requires c κs = search rules
@@ -48,8 +48,8 @@ local-requires-2 : tie.Need-local-requires-2
 local-requires-2 c κs = search rules
 
 -- What `has_ports` says is said of the packet's protocol.
-known : (c : tie.After-has-ports) → c.has-ports.result ≡ hasPorts (protocol c.before.before.before.before.before.before.before.args.bytes.now)
-known c = c.has-ports.ensures ∙ ap hasPorts c.before.wide.ensures.0
+known : (c : tie.After-has-ports) → c.has-ports.result ≡ carries_ports (protocol c.before.before.before.before.before.before.before.args.bytes.now)
+known c = c.has-ports.ensures ∙ ap carries_ports c.before.wide.ensures.0
 
 returns-2 : tie.Need-returns-2
 returns-2 c =
@@ -69,7 +69,7 @@ returns-3 : tie.Need-returns-3
 returns-3 c =
     let k = c.before.before in
     let a = k.before.before.before.before.before.before.before.args in
-    rw (shown-few-ports a.bytes.now a.end (sym (known k) ∙ c.before.if2.true) (omega arith)) (refl, refl)
+    rw (shown_few-ports a.bytes.now a.end (sym (known k) ∙ c.before.if2.true) (omega arith)) (refl, refl)
 
 add-if5 : tie.Need-overflow-add-if5
 add-if5 c = search rules
@@ -82,7 +82,7 @@ returns-4 c =
     let k = c.before.before.before.before in
     let a = k.before.before.before.before.before.before.before.args in
     rw (
-      shown-type a.bytes.now a.end (omega arith) (sym (known k) ∙ c.before.before.before.if2.false) (omega arith) (omega arith),
+      shown_type a.bytes.now a.end (omega arith) (sym (known k) ∙ c.before.before.before.if2.false) (omega arith) (omega arith),
       c.two-there3.ensures.0,
       k.before.before.before.header-end.ensures,
     )
@@ -92,14 +92,14 @@ returns-5 : tie.Need-returns-5
 returns-5 c =
     let k = c.before.before.before in
     let a = k.before.before.before.before.before.before.before.args in
-    rw (shown-few-type a.bytes.now a.end (sym (known k) ∙ c.before.before.if2.false) (omega arith)) (refl, refl)
+    rw (shown_few_type a.bytes.now a.end (sym (known k) ∙ c.before.before.if2.false) (omega arith)) (refl, refl)
 
 returns-6 : tie.Need-returns-6
 returns-6 c =
     let k = c.before.before in
     let a = k.before.before.before.before.before.before.before.args in
     let n = ne_eqb (protocol a.bytes.now) 1 (λ e. omega arith) in
-    rw (shown-other a.bytes.now a.end (sym (known k) ∙ c.before.if2.false) n) (refl, refl)
+    rw (shown_other a.bytes.now a.end (sym (known k) ∙ c.before.if2.false) n) (refl, refl)
 
 pub ports-at-spec : {M : Type 1} → statement M
 ports-at-spec =

@@ -4,9 +4,9 @@ use mathlib.Core.Path.{◌≡◌, sym, ap, ◌∙◌}
 use mathlib.Core.Bool.{true}
 use borrow.Author.Tests.{not-true, not-false, le-leb, lt-leb}
 use lib.ListN.{length}
-use Rattle.packet.specs.Header.{headerEnd}
-use Rattle.packet.specs.Read.{headerGood, packetOf, triggerReadable, readTrigger}
-use Rattle.packet.specs.StepsLaws.{good-header, good-upper}
+use Rattle.packet.specs.Header.{header_end}
+use Rattle.packet.specs.Read.{header_good, packet_of, trigger_readable, read_trigger}
+use Rattle.packet.specs.StepsLaws.{good-header, good_upper}
 use Rattle.packet.specs.declared.Reading.TheVariants.{Readable}
 use borrow.Author.Rules.{rules}
 use Rattle.packet.proofs.read_trigger.Statement.{statement}
@@ -16,21 +16,21 @@ header-good-requires : tie.Need-header-good-requires
 header-good-requires c κs = search rules
 
 returns : tie.Need-returns
-unfolding readTrigger triggerReadable
+unfolding read_trigger trigger_readable
 returns c = rw (sym c.before.header-good.ensures ∙ not-true _ c.if1.true)
 
 -- Past the first test the header is good.
-good : (c : tie.Else1) → headerGood c.before.before.before.args.bytes.now ≡ true
+good : (c : tie.Else1) → header_good c.before.before.before.args.bytes.now ≡ true
 good c = sym c.before.header-good.ensures ∙ not-false _ c.if1.false
 
 header-end-requires : tie.Need-header-end-requires
 header-end-requires c κs = omega (arith, good-header _ (good c))
 
 returns-2 : tie.Need-returns-2
-unfolding readTrigger triggerReadable
+unfolding read_trigger trigger_readable
 returns-2 c =
     let p = c.before.before.before.before.before.args.bytes.now in
-    rw (good c.before.before, lt-leb (headerEnd p) (length p) (omega arith))
+    rw (good c.before.before, lt-leb (header_end p) (length p) (omega arith))
 
 total-length-requires : tie.Need-total-length-requires
 total-length-requires c κs = omega (arith, good-header _ (good c.before.before))
@@ -41,14 +41,14 @@ least-requires c κs = search rules
 packet-at-requires : tie.Need-packet-at-requires
 packet-at-requires c κs =
     let p = c.before.before.before.before.before.before.before.args.bytes.now in
-    record { header = good-header p (good c.before.before.before.before); upper = omega (arith, good-upper p (good c.before.before.before.before)); within = search rules }
+    record { header = good-header p (good c.before.before.before.before); upper = omega (arith, good_upper p (good c.before.before.before.before)); within = search rules }
 
 returns-3 : tie.Need-returns-3
-unfolding readTrigger triggerReadable
+unfolding read_trigger trigger_readable
 returns-3 c =
     let p = c.before.before.before.before.before.before.before.before.args.bytes.now in
-    rw (good c.before.before.before.before.before, le-leb (headerEnd p) (length p) (omega arith))
-    (ap Readable (c.packet-at.ensures ∙ ap (packetOf _ p) (omega arith)))
+    rw (good c.before.before.before.before.before, le-leb (header_end p) (length p) (omega arith))
+    (ap Readable (c.packet-at.ensures ∙ ap (packet_of _ p) (omega arith)))
 
 pub read-trigger-spec : {M : Type 1} → statement M
 read-trigger-spec =

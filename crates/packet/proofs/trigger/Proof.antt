@@ -2,7 +2,7 @@
 use Prim.Native.Nat.{◌+◌, ◌-◌, min}
 use native.Mathlib.Omega.{arith}
 use mathlib.Core.Path.{◌≡◌}
-use Rattle.packet.specs.Read.{triggerAt, triggerOf}
+use Rattle.packet.specs.Read.{trigger_at, trigger_of}
 use borrow.Author.Rules.{rules}
 use Rattle.packet.proofs.trigger.Statement.{statement}
 use Rattle.packet.proofs.trigger.Tie as tie
@@ -29,11 +29,11 @@ part-result-end : tie.Need-slice-bounds-result-end
 part-result-end c = search rules
 
 returns : tie.Need-returns
-unfolding triggerOf
+unfolding trigger_of
 returns c =
     let upper = c.before.before.before.before.before.args.packet.upper in
     let stop = c.before.before.before.least.result in
-    let e : stop - c.before.past2.result ≡ min (upper + triggerAt) stop = omega arith in
+    let e : stop - c.before.past2.result ≡ min (upper + trigger_at) stop = omega arith in
     rw (e, c.before.before.before.least.ensures)
 
 pub trigger-spec : {M : Type 1} → statement M

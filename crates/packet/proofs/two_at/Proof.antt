@@ -1,7 +1,7 @@
 -- `packet::two_at` meets its contract: past the end, at the last byte, or before it. Assumes nothing.
 use native.Mathlib.Omega.{arith}
 use mathlib.Core.Path.{sym}
-use Rattle.packet.specs.StepsLaws.{two_past, two-last}
+use Rattle.packet.specs.StepsLaws.{two_past, two_last}
 use borrow.Author.Rules.{rules}
 use Rattle.packet.proofs.two_at.Statement.{statement}
 use Rattle.packet.proofs.two_at.Tie as tie
@@ -27,7 +27,7 @@ returns c = let a = c.before.before.before.args in (sym (two_past a.bytes.now a.
 returns-2 : tie.Need-returns-2
 returns-2 c =
     let a = c.before.before.before.before.before.args in
-    (omega (arith, two-last a.bytes.now a.i (omega arith)), search rules)
+    (omega (arith, two_last a.bytes.now a.i (omega arith)), search rules)
 
 returns-3 : tie.Need-returns-3
 returns-3 c = search rules

@@ -4,11 +4,11 @@ use Prim.Native.Nat.{◌≤◌, ◌-◌}
 use native.Mathlib.Nat.{sub-zero}
 use mathlib.Core.Path.{◌≡◌, sym, ap, ◌∙◌}
 use Rattle.selectors.specs.Value.{combination}
-use Rattle.policy.specs.Policy.{matchFrom}
+use Rattle.policy.specs.Policy.{match_from}
 use Rattle.selectors.specs.Words.{values_of}
-use Rattle.selectors.specs.WordsLaws.{selector-values}
-use Rattle.policy.specs.Words.{rows_from, policyRows}
-use Rattle.policy.specs.WordsLaws.{match-found, match-passed, match-ended}
+use Rattle.selectors.specs.WordsLaws.{selector_values}
+use Rattle.policy.specs.Words.{rows_from, policy_rows}
+use Rattle.policy.specs.WordsLaws.{match-found, match_passed, match_ended}
 use borrow.Author.Rules.{rules}
 use Rattle.policy.proofs.first_match.Statement.{statement}
 use Rattle.policy.proofs.first_match.Tie as tie
@@ -16,14 +16,14 @@ use Rattle.policy.proofs.first_match.Tie as tie
 abbrev invariant-loop : tie.invariant-loop
 invariant-loop rows direction values count row₀ row =
     (row ≤ count)
-    × (matchFrom 0 direction (policyRows rows) (values_of values) ≡ matchFrom row direction (rows_from rows row (count - row)) (values_of values))
+    × (match_from 0 direction (policy_rows rows) (values_of values) ≡ match_from row direction (rows_from rows row (count - row)) (values_of values))
 
 abbrev decreases-loop : tie.decreases-loop
 decreases-loop rows direction values count row₀ row = count - row
 
 -- The words are those of the selectors.
 values-are : (c : tie.After-selector-words invariant-loop decreases-loop) → combination c.before.before.args.selectors ≡ values_of c.selector-words.result
-values-are c = sym (selector-values c.before.before.args.selectors) ∙ ap values_of (sym c.selector-words.ensures)
+values-are c = sym (selector_values c.before.before.args.selectors) ∙ ap values_of (sym c.selector-words.ensures)
 
 selector-words-requires : tie.Need-selector-words-requires invariant-loop decreases-loop
 selector-words-requires c κs = search rules
@@ -56,7 +56,7 @@ loop-again c =
     let s = c.before.before.before.before.before.before.before in (
       search rules,
       c.before.before.before.before.loop.invariant.1
-          ∙ match-passed s.args.direction s.args.rows.now (values_of c.before.before.before.before.before.selector-words.result) c.before.before.before.before.loop.row _ (search rules)
+          ∙ match_passed s.args.direction s.args.rows.now (values_of c.before.before.before.before.before.selector-words.result) c.before.before.before.before.loop.row _ (search rules)
           (sym c.before.row-matches.ensures ∙ c.if1.false),
     )
 
@@ -65,7 +65,7 @@ returns-2 c =
     let s = c.before.before.before.before in
     rw (values-are c.before.before)
     (sym (c.before.loop.invariant.1
-    ∙ match-ended s.args.direction s.args.rows.now (values_of c.before.before.selector-words.result) c.before.loop.row _ (search rules)))
+    ∙ match_ended s.args.direction s.args.rows.now (values_of c.before.before.selector-words.result) c.before.loop.row _ (search rules)))
 
 pub first-match-spec : {M : Type 1} → statement M
 first-match-spec =

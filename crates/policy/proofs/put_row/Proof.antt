@@ -3,14 +3,14 @@ use Prim.Native.Nat.{suc, ◌+◌}
 use native.Mathlib.Omega.{arith}
 use native.Mathlib.Numerals.{add-one}
 use mathlib.Core.Path.{◌≡◌, sym, ◌∙◌}
-use Rattle.selectors.specs.StoresLaws.{sets-out}
-use Rattle.policy.specs.Words.{wordsOfRecord}
+use Rattle.selectors.specs.StoresLaws.{sets_out}
+use Rattle.policy.specs.Words.{words_of_record}
 use borrow.Author.Rules.{rules}
 use Rattle.policy.proofs.put_row.Statement.{statement}
 use Rattle.policy.proofs.put_row.Tie as tie
 
 returns : tie.Need-returns
-returns c = sym (sets-out c.before.before.args.rows.now c.before.before.args.at (wordsOfRecord c.before.before.args.row) (omega arith))
+returns c = sym (sets_out c.before.before.args.rows.now c.before.before.args.at (words_of_record c.before.before.args.row) (omega arith))
 
 put-word-requires : tie.Need-put-word-requires
 put-word-requires c κs = search rules

@@ -5,7 +5,7 @@ use Rattle.policy.specs.Policy.{matches}
 use Rattle.policy.specs.Words.{row_at}
 use Prim.Native.Nat.{◌+◌}
 use borrow.Author.Rules.{rules}
-use Rattle.selectors.specs.HeldLaws.{held-five}
+use Rattle.selectors.specs.HeldLaws.{held_five}
 use Rattle.policy.proofs.row_matches.Statement.{statement}
 use Rattle.policy.proofs.row_matches.Tie as tie
 
@@ -35,7 +35,7 @@ returns-2 : tie.Need-returns-2
 unfolding matches row_at
 returns-2 c =
     rw (← c.before.before.before.direction-of.ensures, sym c.before.before.applies-to.ensures ∙ not-false _ c.before.if1.false)
-    (c.ranges-hold.ensures ∙ held-five c.before.before.before.before.before.before.args.rows.now (c.before.before.before.before.before.before.args.at + 2) c.before.before.before.before.before.before.args.values.now (search rules))
+    (c.ranges-hold.ensures ∙ held_five c.before.before.before.before.before.before.args.rows.now (c.before.before.before.before.before.before.args.at + 2) c.before.before.before.before.before.before.args.values.now (search rules))
 
 pub row-matches-spec : {M : Type 1} → statement M
 row-matches-spec =

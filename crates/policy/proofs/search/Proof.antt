@@ -5,8 +5,8 @@ use mathlib.Core.Path.{sym, ◌∙◌, ap}
 use borrow.Author.Rules.{rules}
 use lib.ListN.{length}
 use Rattle.selectors.specs.Value.{combination}
-use Rattle.policy.specs.Words.{rowWords}
-use Rattle.policy.specs.WordsLaws.{actionFound, search-match, match-bound}
+use Rattle.policy.specs.Words.{row_words}
+use Rattle.policy.specs.WordsLaws.{action_found, search_match, match_bound}
 use Rattle.policy.proofs.search.Statement.{statement}
 use Rattle.policy.proofs.search.Tie as tie
 
@@ -20,21 +20,21 @@ enum_told : tie.Need-enum-told
 enum_told c = search rules
 
 -- A match is one of the rows.
-found-row : (c : tie.After-known-told) → c.before.found.given.0.0 < length c.before.before.before.before.before.args.rows.now / rowWords
+found-row : (c : tie.After-known-told) → c.before.found.given.0.0 < length c.before.before.before.before.before.args.rows.now / row_words
 found-row c =
     let s = c.before.before.before.before.before in
     omega (
       arith,
-      match-bound s.args.direction s.args.rows.now (combination s.args.selectors) 0 _ _
-          (sym c.before.before.before.first-match.ensures ∙ c.before.found.given.1),
+      match_bound s.args.direction s.args.rows.now (combination s.args.selectors) 0 _ _
+          (sym c.before.before.before.first_match.ensures ∙ c.before.found.given.1),
     )
 
 returns : tie.Need-returns
-unfolding actionFound
+unfolding action_found
 returns c =
     let s = c.before.before.before.before in
-    sym (search-match s.args.direction s.args.rows.now (combination s.args.selectors) 0 _
-    ∙ ap (actionFound s.args.rows.now) (sym c.before.before.first-match.ensures ∙ c.enum_told.given.1))
+    sym (search_match s.args.direction s.args.rows.now (combination s.args.selectors) 0 _
+    ∙ ap (action_found s.args.rows.now) (sym c.before.before.first_match.ensures ∙ c.enum_told.given.1))
 
 mul-action-of : tie.Need-overflow-mul-action-of
 mul-action-of c = let h = found-row c in search rules
@@ -52,12 +52,12 @@ action-of-requires : tie.Need-action-of-requires
 action-of-requires c κs = search rules
 
 returns-2 : tie.Need-returns-2
-unfolding actionFound
+unfolding action_found
 returns-2 c =
     let s = c.before.before.before.before.before.before.before in
     c.action-of.ensures
-    ∙ sym (search-match s.args.direction s.args.rows.now (combination s.args.selectors) 0 _
-    ∙ ap (actionFound s.args.rows.now) (sym c.before.before.before.before.before.first-match.ensures ∙ c.before.before.before.found.given.1))
+    ∙ sym (search_match s.args.direction s.args.rows.now (combination s.args.selectors) 0 _
+    ∙ ap (action_found s.args.rows.now) (sym c.before.before.before.before.before.first_match.ensures ∙ c.before.before.before.found.given.1))
 
 pub search-spec : {M : Type 1} → statement M
 search-spec =

@@ -1,18 +1,18 @@
 -- `policy_fields::action_field` meets its contract: by the three words. Assumes nothing.
 use mathlib.Core.Path.{◌≡◌, sym, ◌∙◌}
 use mathlib.Core.Bool.{true, false}
-use Rattle.policy_text.specs.Bytes.{dash, before, sameBytes}
-use Rattle.policy_text.specs.Edition1.{bypassWord, discardWord, protectWord, actionField}
-use Rattle.policy_text.specs.FormatLaws.{decimal-at-most}
+use Rattle.policy_text.specs.Bytes.{dash, before, are_same_bytes}
+use Rattle.policy_text.specs.Edition1.{bypass_word, discard_word, protect_word, action_field}
+use Rattle.policy_text.specs.FormatLaws.{decimal_at_most}
 use borrow.Author.Rules.{rules}
 use Rattle.policy_fields.proofs.action_field.Statement.{statement}
 use Rattle.policy_fields.proofs.action_field.Tie as tie
 
 -- What the tests said, where each failed.
-not-bypass : (c : tie.Else1) → sameBytes c.before.before.before.before.args.s.now bypassWord ≡ false
+not-bypass : (c : tie.Else1) → are_same_bytes c.before.before.before.before.args.s.now bypass_word ≡ false
 not-bypass c = sym c.before.same.ensures ∙ c.if1.false
 
-not-discard : (c : tie.Else2) → sameBytes c.before.before.before.before.before.before.before.args.s.now discardWord ≡ false
+not-discard : (c : tie.Else2) → are_same_bytes c.before.before.before.before.before.before.before.args.s.now discard_word ≡ false
 not-discard c = sym c.before.same2.ensures ∙ c.if2.false
 
 slice-aggregate-same : tie.Need-slice-aggregate-same
@@ -22,7 +22,7 @@ same-requires : tie.Need-same-requires
 same-requires c κs = search rules
 
 returns : tie.Need-returns
-unfolding actionField
+unfolding action_field
 returns c = rw (sym c.before.same.ensures ∙ c.if1.true)
 
 slice-aggregate-same-2 : tie.Need-slice-aggregate-same-2
@@ -32,7 +32,7 @@ same-requires-2 : tie.Need-same-requires-2
 same-requires-2 c κs = search rules
 
 returns-2 : tie.Need-returns-2
-unfolding actionField
+unfolding action_field
 returns-2 c = rw (not-bypass c.before.before.before, sym c.before.same2.ensures ∙ c.if2.true)
 
 before-requires : tie.Need-before-requires
@@ -51,17 +51,17 @@ decimal-requires : tie.Need-decimal-requires
 decimal-requires c κs = search rules
 
 protect-requires : tie.Need-protect-requires
-protect-requires c κs = rw c.decimal.ensures (decimal-at-most 255 _)
+protect-requires c κs = rw c.decimal.ensures (decimal_at_most 255 _)
 
 returns-3 : tie.Need-returns-3
-unfolding actionField
+unfolding action_field
 returns-3 c =
     let t = c.before.before.before in
     let p = rw t.before.before.before.before2.ensures at (sym t.before.same3.ensures ∙ t.if3.true) in
     rw (not-bypass t.before.before.before.before.before.before.before, not-discard t.before.before.before.before, p, ← c.before.before.after.ensures, ← c.before.decimal.ensures) c.protect.ensures
 
 returns-4 : tie.Need-returns-4
-unfolding actionField
+unfolding action_field
 returns-4 c =
     let p = rw c.before.before.before.before2.ensures at (sym c.before.same3.ensures ∙ c.if3.false) in
     rw (not-bypass c.before.before.before.before.before.before.before, not-discard c.before.before.before.before, p)

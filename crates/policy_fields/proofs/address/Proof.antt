@@ -9,7 +9,7 @@ use Rattle.policy_text.specs.declared.Number.TheVariants.{Is}
 use Rattle.policy_text.specs.Bytes.{dot, before, after}
 use Rattle.policy_text.specs.Decimals.{decimal}
 use Rattle.policy_text.specs.Edition1.{address}
-use Rattle.policy_text.specs.FormatLaws.{decimal-bound}
+use Rattle.policy_text.specs.FormatLaws.{decimal_bound}
 use borrow.Author.Rules.{rules}
 use Rattle.policy_fields.proofs.address.Statement.{statement}
 use Rattle.policy_fields.proofs.address.Tie as tie
@@ -86,8 +86,8 @@ b-of c = b_at (c-at c).before.before
 within : (c : tie.After-d) → let e = c.before.before in Sums (a-of e).a.given.0.0 (b-of e).b.given.0.0 (c-at e).c.given.0.0 c.d.given.0.0
 within c =
     let e = c.before.before in
-    sums _ _ _ _ (decimal-bound 255 _ _ (is-a (a-of e))) (decimal-bound 255 _ _ (is_b (b-of e)))
-    (decimal-bound 255 _ _ (is_c (c-at e))) (decimal-bound 255 _ _ (is-d c))
+    sums _ _ _ _ (decimal_bound 255 _ _ (is-a (a-of e))) (decimal_bound 255 _ _ (is_b (b-of e)))
+    (decimal_bound 255 _ _ (is_c (c-at e))) (decimal_bound 255 _ _ (is-d c))
 
 after-requires : tie.Need-after-requires
 after-requires c κs = search rules

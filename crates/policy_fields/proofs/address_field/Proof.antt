@@ -1,21 +1,21 @@
 -- `policy_fields::address_field` meets its contract: by the definition's tests, in its order. Assumes nothing.
 use mathlib.Core.Path.{◌≡◌, sym, ◌∙◌}
 use mathlib.Core.Bool.{false}
-use Rattle.policy_text.specs.Bytes.{dash, slash, sameBytes, has}
-use Rattle.policy_text.specs.BytesLaws.{has_there, has-not}
+use Rattle.policy_text.specs.Bytes.{dash, slash, are_same_bytes, has}
+use Rattle.policy_text.specs.BytesLaws.{has_there, has_not}
 use Rattle.policy_text.specs.Format.{any}
-use Rattle.policy_text.specs.Edition1.{addressField}
-use Rattle.policy_text.specs.FormatLaws.{address-at-most}
+use Rattle.policy_text.specs.Edition1.{address_field}
+use Rattle.policy_text.specs.FormatLaws.{address_at_most}
 use borrow.Author.Rules.{rules}
 use Rattle.policy_fields.proofs.address_field.Statement.{statement}
 use Rattle.policy_fields.proofs.address_field.Tie as tie
 
 -- What the first two tests said, where each failed.
-not-any : (c : tie.Else1) → sameBytes c.before.before.before.before.args.s.now any ≡ false
+not-any : (c : tie.Else1) → are_same_bytes c.before.before.before.before.args.s.now any ≡ false
 not-any c = sym c.before.same.ensures ∙ c.if1.false
 
 no_slash : (c : tie.Else2) → has slash c.before.before.before.before.before.before.args.s.now ≡ false
-no_slash c = has-not slash _ _ c.before.find.ensures.0 c.if2.false
+no_slash c = has_not slash _ _ c.before.find.ensures.0 c.if2.false
 
 slice-aggregate-same : tie.Need-slice-aggregate-same
 slice-aggregate-same c = search rules
@@ -24,7 +24,7 @@ same-requires : tie.Need-same-requires
 same-requires c κs = search rules
 
 returns : tie.Need-returns
-unfolding addressField
+unfolding address_field
 returns c = rw (sym c.before.same.ensures ∙ c.if1.true)
 
 find-requires : tie.Need-find-requires
@@ -43,10 +43,10 @@ address-requires-2 : tie.Need-address-requires-2
 address-requires-2 c κs = search rules
 
 masked-requires : tie.Need-masked-requires
-masked-requires c κs = (rw c.before.before.address.ensures (address-at-most _), rw c.address2.ensures (address-at-most _))
+masked-requires c κs = (rw c.before.before.address.ensures (address_at_most _), rw c.address2.ensures (address_at_most _))
 
 returns-2 : tie.Need-returns-2
-unfolding addressField
+unfolding address_field
 returns-2 c =
     let t = c.before.before.before.before.before in
     let h = has_there slash _ _ t.before.find.ensures.0 t.if2.true in
@@ -71,7 +71,7 @@ address-span-requires : tie.Need-address-span-requires
 address-span-requires c κs = search rules
 
 returns-3 : tie.Need-returns-3
-unfolding addressField
+unfolding address_field
 returns-3 c =
     let t = c.before.before.before.before.before in
     let d = has_there dash _ _ t.before.find2.ensures.0 t.if3.true in
@@ -87,10 +87,10 @@ address-span-requires-2 : tie.Need-address-span-requires-2
 address-span-requires-2 c κs = search rules
 
 returns-4 : tie.Need-returns-4
-unfolding addressField
+unfolding address_field
 returns-4 c =
     let t = c.before.before.before in
-    let d = has-not dash _ _ t.before.find2.ensures.0 t.if3.false in
+    let d = has_not dash _ _ t.before.find2.ensures.0 t.if3.false in
     rw (not-any t.before.before.before.before, no_slash t.before.before, d) (rw (c.before.before.address5.ensures, c.before.address6.ensures) at c.address-span2.ensures)
 
 pub address-field-spec : {M : Type 1} → statement M

@@ -1,16 +1,16 @@
 -- `policy_fields::port_field` meets its contract: by the definition's tests, in its order. Assumes nothing.
 use mathlib.Core.Path.{◌≡◌, sym, ◌∙◌}
 use mathlib.Core.Bool.{false}
-use Rattle.policy_text.specs.Bytes.{dash, sameBytes}
-use Rattle.policy_text.specs.BytesLaws.{has_there, has-not}
+use Rattle.policy_text.specs.Bytes.{dash, are_same_bytes}
+use Rattle.policy_text.specs.BytesLaws.{has_there, has_not}
 use Rattle.policy_text.specs.Format.{any}
-use Rattle.policy_text.specs.Edition1.{portField}
+use Rattle.policy_text.specs.Edition1.{port_field}
 use borrow.Author.Rules.{rules}
 use Rattle.policy_fields.proofs.port_field.Statement.{statement}
 use Rattle.policy_fields.proofs.port_field.Tie as tie
 
 -- What the first test said, where it failed.
-not-any : (c : tie.Else1) → sameBytes c.before.before.before.before.args.s.now any ≡ false
+not-any : (c : tie.Else1) → are_same_bytes c.before.before.before.before.args.s.now any ≡ false
 not-any c = sym c.before.same.ensures ∙ c.if1.false
 
 slice-aggregate-same : tie.Need-slice-aggregate-same
@@ -20,7 +20,7 @@ same-requires : tie.Need-same-requires
 same-requires c κs = search rules
 
 returns : tie.Need-returns
-unfolding portField
+unfolding port_field
 returns c = rw (sym c.before.same.ensures ∙ c.if1.true)
 
 find-requires : tie.Need-find-requires
@@ -42,7 +42,7 @@ port-span-requires : tie.Need-port-span-requires
 port-span-requires c κs = search rules
 
 returns-2 : tie.Need-returns-2
-unfolding portField
+unfolding port_field
 returns-2 c =
     let t = c.before.before.before.before.before in
     let d = has_there dash _ _ t.before.find.ensures.0 t.if2.true in
@@ -58,10 +58,10 @@ port-span-requires-2 : tie.Need-port-span-requires-2
 port-span-requires-2 c κs = search rules
 
 returns-3 : tie.Need-returns-3
-unfolding portField
+unfolding port_field
 returns-3 c =
     let t = c.before.before.before in
-    let d = has-not dash _ _ t.before.find.ensures.0 t.if2.false in
+    let d = has_not dash _ _ t.before.find.ensures.0 t.if2.false in
     rw (not-any t.before.before, d) (rw (c.before.before.port-end2.ensures, c.before.port-end3.ensures) at c.port-span2.ensures)
 
 pub port-field-spec : {M : Type 1} → statement M

@@ -1,6 +1,6 @@
 -- `policy_fields::port_span` meets its contract: the constructor makes the range of the definition. Assumes nothing.
 use mathlib.Core.Path.{◌∙◌}
-use Rattle.policy_fields.specs.AnswerLaws.{new-port}
+use Rattle.policy_fields.specs.AnswerLaws.{new_port}
 use borrow.Author.Rules.{rules}
 use Rattle.policy_fields.proofs.port_span.Statement.{statement}
 use Rattle.policy_fields.proofs.port_span.Tie as tie
@@ -34,7 +34,7 @@ new-requires c κs = search rules
 
 returns-3 : tie.Need-returns-3
 returns-3 c =
-    rw (c.before.before.before.before.before.before.before.low.given.1, c.before.before.before.before.high.given.1) (c.new.ensures ∙ rw (c.before.before.small.ensures, c.before.small2.ensures) (new-port _ _))
+    rw (c.before.before.before.before.before.before.before.low.given.1, c.before.before.before.before.high.given.1) (c.new.ensures ∙ rw (c.before.before.small.ensures, c.before.small2.ensures) (new_port _ _))
 
 pub port-span-spec : {M : Type 1} → statement M
 port-span-spec =

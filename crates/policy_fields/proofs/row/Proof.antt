@@ -1,7 +1,7 @@
 -- `policy_fields::row` meets its contract: each field is that of the definition. Assumes nothing.
 use mathlib.Core.Path.{◌∙◌}
-use Rattle.policy_text.specs.Format.{field, fieldsFrom}
-use Rattle.policy_fields.specs.Answers.{entryOf}
+use Rattle.policy_text.specs.Format.{field, fields_from}
+use Rattle.policy_fields.specs.Answers.{entry_of}
 use borrow.Author.Rules.{rules}
 use Rattle.policy_fields.proofs.row.Statement.{statement}
 use Rattle.policy_fields.proofs.row.Tie as tie
@@ -67,7 +67,7 @@ entry-of-requires : tie.Need-entry-of-requires
 entry-of-requires c κs = search rules
 
 returns : tie.Need-returns
-unfolding entryOf field fieldsFrom
+unfolding entry_of field fields_from
 returns c =
     c.entry_of.ensures
     ∙ rw (

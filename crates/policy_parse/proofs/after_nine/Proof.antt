@@ -1,7 +1,7 @@
 -- `policy_parse::after_nine` meets its contract. Assumes nothing.
 use mathlib.Core.Path.{sym, ◌∙◌}
 use lib.ListN.{length}
-use Rattle.policy_text.specs.BytesLaws.{part-rest, left-none}
+use Rattle.policy_text.specs.BytesLaws.{part_rest, left_none}
 use borrow.Author.Rules.{rules}
 use Rattle.policy_parse.proofs.after_nine.Statement.{statement}
 use Rattle.policy_parse.proofs.after_nine.Tie as tie
@@ -18,7 +18,7 @@ part-result-end c = search rules
 returns : tie.Need-returns
 returns c =
     let s = c.before.before.args.s.now in
-    part-rest s (length s) ∙ left-none s (length s) (search rules) ∙ sym (left-none s 9 (search rules))
+    part_rest s (length s) ∙ left_none s (length s) (search rules) ∙ sym (left_none s 9 (search rules))
 
 sub-result-2 : tie.Need-overflow-sub-result-2
 sub-result-2 c = search rules
@@ -30,7 +30,7 @@ part-result-end-2 : tie.Need-slice-bounds-result-end-2
 part-result-end-2 c = search rules
 
 returns-2 : tie.Need-returns-2
-returns-2 c = part-rest c.before.before.args.s.now 9
+returns-2 c = part_rest c.before.before.args.s.now 9
 
 pub after-nine-spec : {M : Type 1} → statement M
 after-nine-spec =

@@ -7,16 +7,16 @@ use Rattle.policy_fields.specs.declared.RowText.TheVariants.{Row as RowIs, Bad a
 use Rattle.policy_text.specs.Bytes.{lf, before}
 use Rattle.policy_text.specs.Edition1.{edition1}
 use Rattle.policy_text.specs.Format.{lines_of, rows_of}
-use Rattle.policy_fields.specs.Answers.{entryOf}
-use Rattle.policy_parse.specs.Parsing.{badOf}
-use Rattle.policy_parse.specs.RowsLaws.{bad-line, good-line, no_line}
+use Rattle.policy_fields.specs.Answers.{entry_of}
+use Rattle.policy_parse.specs.Parsing.{bad_of}
+use Rattle.policy_parse.specs.RowsLaws.{bad_line, good_line, no_line}
 use borrow.Author.Rules.{rules}
 use Rattle.policy_parse.proofs.first_bad.Statement.{statement}
 use Rattle.policy_parse.proofs.first_bad.Tie as tie
 
 abbrev invariant-loop : tie.invariant-loop
 invariant-loop body count at₀ i₀ at i =
-    (at ≤ length body) × (i ≤ count) × (badOf (rows_of edition1 1 (lines_of count body)) ≡ badOf (rows_of edition1 (i + 1) (lines_of (count - i) (drop at body))))
+    (at ≤ length body) × (i ≤ count) × (bad_of (rows_of edition1 1 (lines_of count body)) ≡ bad_of (rows_of edition1 (i + 1) (lines_of (count - i) (drop at body))))
 
 abbrev decreases-loop : tie.decreases-loop
 decreases-loop body count at₀ i₀ at i = count - i
@@ -43,9 +43,9 @@ returns : tie.Need-returns invariant-loop decreases-loop
 returns c =
     let a = c.before.before.before.before.before.before.before.args in
     let l = c.before.before.before.before.before.loop in
-    let e : entryOf (before lf (drop l.at a.body.now)) ≡ RowBad =
+    let e : entry_of (before lf (drop l.at a.body.now)) ≡ RowBad =
     sym (rw c.before.before.before.line_at_lem.ensures at c.before.before.row.ensures) ∙ c.enum-told2.given.1 in
-    sym (l.invariant.2 ∙ bad-line (drop l.at a.body.now) l.i a.count (search rules) e)
+    sym (l.invariant.2 ∙ bad_line (drop l.at a.body.now) l.i a.count (search rules) e)
 
 next-line-requires : tie.Need-next-line-requires invariant-loop decreases-loop
 next-line-requires c κs = search rules
@@ -61,13 +61,13 @@ loop-again c =
     let a = c.before.before.before.before.before.before.before.before.args in
     let l = c.before.before.before.before.before.before.loop in
     let x = c.before.enum_told.given in
-    let e : entryOf (before lf (drop l.at a.body.now)) ≡ RowIs x.0.0 =
+    let e : entry_of (before lf (drop l.at a.body.now)) ≡ RowIs x.0.0 =
     sym (rw c.before.before.before.before.line_at_lem.ensures at c.before.before.before.row.ensures) ∙ x.1 in (
       search rules,
       search rules,
       l.invariant.2
-          ∙ good-line (drop l.at a.body.now) l.i a.count (search rules) x.0.0 e
-          ∙ rw c.next-line.ensures.1,
+          ∙ good_line (drop l.at a.body.now) l.i a.count (search rules) x.0.0 e
+          ∙ rw c.next_line.ensures.1,
     )
 
 returns-2 : tie.Need-returns-2 invariant-loop decreases-loop

@@ -1,6 +1,6 @@
 -- `policy_parse::line_at` meets its contract. Assumes nothing.
 use mathlib.Core.Path.{◌∙◌}
-use Rattle.policy_text.specs.BytesLaws.{part-rest}
+use Rattle.policy_text.specs.BytesLaws.{part_rest}
 use borrow.Author.Rules.{rules}
 use Rattle.policy_parse.proofs.line_at.Statement.{statement}
 use Rattle.policy_parse.proofs.line_at.Tie as tie
@@ -18,7 +18,7 @@ before-requires : tie.Need-before-requires
 before-requires c κs = search rules
 
 returns : tie.Need-returns
-returns c = c.before2.ensures ∙ rw part-rest
+returns c = c.before2.ensures ∙ rw part_rest
 
 pub line-at-spec : {M : Type 1} → statement M
 line-at-spec =

@@ -5,7 +5,7 @@ use mathlib.Core.Path.{sym, ◌∙◌}
 use lib.ListN.{length, drop, length-drop}
 use lib.Seq.{drop-drop}
 use Rattle.policy_text.specs.Bytes.{lf, index, after}
-use Rattle.policy_text.specs.BytesLaws.{part-rest, left-none}
+use Rattle.policy_text.specs.BytesLaws.{part_rest, left_none}
 use borrow.Author.Rules.{rules}
 use Rattle.policy_parse.proofs.next_line.Statement.{statement}
 use Rattle.policy_parse.proofs.next_line.Tie as tie
@@ -32,14 +32,14 @@ returns : tie.Need-returns
 unfolding after
 returns c =
     let a = c.before.before.before.before.args in
-    (search rules, rw (c.before.find.ensures.0, part-rest) (sym (drop-drop (index lf (drop a.at a.s.now) + 1) a.at a.s.now)))
+    (search rules, rw (c.before.find.ensures.0, part_rest) (sym (drop-drop (index lf (drop a.at a.s.now) + 1) a.at a.s.now)))
 
 returns-2 : tie.Need-returns-2
 unfolding after
 returns-2 c =
     let a = c.before.before.before.before.args in
-    let e = rw part-rest at c.before.find.ensures.0 in
-    (search rules, left-none a.s.now (length a.s.now) (search rules) ∙ sym (left-none (drop a.at a.s.now) (index lf (drop a.at a.s.now) + 1) (simp length-drop (omega (arith, e)))))
+    let e = rw part_rest at c.before.find.ensures.0 in
+    (search rules, left_none a.s.now (length a.s.now) (search rules) ∙ sym (left_none (drop a.at a.s.now) (index lf (drop a.at a.s.now) + 1) (simp length-drop (omega (arith, e)))))
 
 pub next-line-spec : {M : Type 1} → statement M
 next-line-spec =

@@ -4,26 +4,26 @@ use native.Mathlib.Omega.{arith}
 use mathlib.Core.Path.{◌≡◌, sym, ap, ◌∙◌}
 use Rattle.policy_text.specs.declared.Edition.{Edition}
 use lib.ListN.{length}
-use Rattle.policy.specs.Words.{rowLimit}
+use Rattle.policy.specs.Words.{row_limit}
 use Rattle.policy_text.specs.declared.File.{File}
 use Rattle.policy_text.specs.declared.File.TheVariants.{Rows, Refused}
 use Rattle.policy_text.specs.EditionsLaws.{only_one}
-use Rattle.policy_text.specs.Editions.{rules, rows, parsePolicy}
-use Rattle.policy_round_trip.specs.AcceptedLaws.{parse-printable}
-use Rattle.policy_parse.specs.FileLaws.{FileIs, file-is, rows_written}
+use Rattle.policy_text.specs.Editions.{rules, rows, parse_policy}
+use Rattle.policy_round_trip.specs.AcceptedLaws.{parse_printable}
+use Rattle.policy_parse.specs.FileLaws.{FileIs, file_is, rows_written}
 use borrow.Author.Rules.{rules}
 use Rattle.policy_parse.proofs.parse_policy.Statement.{statement}
 use Rattle.policy_parse.proofs.parse_policy.Tie as tie
 
 -- What the file is.
-says : (c : tie.After-examine) (f : File) → c.examine.result ≡ f → FileIs (parsePolicy rowLimit c.before.before.args.bytes.now) f
-says c f e = file-is _ f (sym e ∙ c.examine.ensures)
+says : (c : tie.After-examine) (f : File) → c.examine.result ≡ f → FileIs (parse_policy row_limit c.before.before.args.bytes.now) f
+says c f e = file_is _ f (sym e ∙ c.examine.ensures)
 
 -- Its rows are at most the limit's.
-few : (c : tie.After-file) → c.file.given.0.1.0 ≤ rowLimit
+few : (c : tie.After-file) → c.file.given.0.1.0 ≤ row_limit
 few c =
     let h = says c.before.before (Rows c.file.given.0.0 c.file.given.0.1.0) c.file.given.1 in
-    omega (arith, (parse-printable rowLimit _ (rules _ h.0) h.1.0).1, h.1.1)
+    omega (arith, (parse_printable row_limit _ (rules _ h.0) h.1.0).1, h.1.1)
 
 examine-requires : tie.Need-examine-requires
 examine-requires c κs = search rules
@@ -48,7 +48,7 @@ returns c =
     let n = x.file.given.0.1.0 in
     let h = says x.before.before (Rows e n) x.file.given.1 in
     let l = few x in
-    let w = rows_written rowLimit s.bytes.now h.0 (h.1.0 ∙ ap (λ (o : Edition). rows (rules o h.0)) (only_one e)) s.rows.now n h.1.1 (search rules) in
+    let w = rows_written row_limit s.bytes.now h.0 (h.1.0 ∙ ap (λ (o : Edition). rows (rules o h.0)) (only_one e)) s.rows.now n h.1.1 (search rules) in
     (sym x.file.given.1 ∙ x.before.before.examine.ensures, rw h.1.0 (c.put-rows.ensures ∙ rw c.before.before.after-nine.ensures w))
 
 returns-2 : tie.Need-returns-2

@@ -5,12 +5,12 @@ use native.Mathlib.Omega.{arith}
 use mathlib.Core.Path.{◌≡◌, sym, ◌∙◌}
 use lib.ListN.{length, drop}
 use lib.Seq.{sets}
-use Rattle.policy.specs.Words.{rowWords}
+use Rattle.policy.specs.Words.{row_words}
 use Rattle.policy_text.specs.Bytes.{lf, before}
 use Rattle.policy_text.specs.Format.{lines_of}
-use Rattle.policy_fields.specs.Answers.{entryOf, textWords}
+use Rattle.policy_fields.specs.Answers.{entry_of, text_words}
 use Rattle.policy_parse.specs.Parsing.{written}
-use Rattle.policy_parse.specs.RowsLaws.{written-line, written_none, no_line}
+use Rattle.policy_parse.specs.RowsLaws.{written_line, written_none, no_line}
 use borrow.Author.Rules.{rules}
 use Rattle.policy_parse.proofs.put_rows.Statement.{statement}
 use Rattle.policy_parse.proofs.put_rows.Tie as tie
@@ -51,12 +51,12 @@ loop-again c =
     let a = c.before.before.before.before.before.before.before.before.before.before.before.args in
     let l = c.before.before.before.before.before.before.before.before.loop in
     let s = drop l.at a.body.now in
-    let r : c.before.before.before.put-text.new.0 ≡ sets l.rows (l.i * rowWords) (textWords (entryOf (before lf s))) =
+    let r : c.before.before.before.put-text.new.0 ≡ sets l.rows (l.i * row_words) (text_words (entry_of (before lf s))) =
     c.before.before.before.put-text.ensures ∙ rw (c.before.before.before.before.row.ensures, c.before.before.before.before.before.line_at_lem.ensures) in (
       search rules,
       search rules,
       omega (arith, c.before.before.before.put-text.auto.0, l.invariant.2),
-      l.invariant.3 ∙ written-line s l.i a.count (search rules) l.rows ∙ rw (r, c.next-line.ensures.1),
+      l.invariant.3 ∙ written_line s l.i a.count (search rules) l.rows ∙ rw (r, c.next_line.ensures.1),
     )
 
 same_length : tie.Need-same-length invariant-loop decreases-loop

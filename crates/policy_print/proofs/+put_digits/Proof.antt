@@ -2,7 +2,7 @@
 use native.Mathlib.Omega.{arith}
 use mathlib.Core.Path.{◌∙◌}
 use lib.ListN.{length-append}
-use Rattle.policy_print.specs.PrintingLaws.{put_then, put-none, digits-none, digits-one, digits_more}
+use Rattle.policy_print.specs.PrintingLaws.{put_then, put_none, digits_none, digits_one, digits_more}
 use borrow.Author.Rules.{rules}
 use Prim.Native.Nat.{ℕ, ◌<◌}
 use borrow.Fn.Kinds.{In}
@@ -34,7 +34,7 @@ put-digits-returns : (t : ℕ) → put-digits-lts.Need-returns (
   put-digits-below t,
   put-digits.Post,
 ) (put-digits-at t) put-digits.Post
-put-digits-returns t c = rw (digits-none c.before.before.args.most c.before.before.args.n c.if1.true) put-none
+put-digits-returns t c = rw (digits_none c.before.before.args.most c.before.before.args.n c.if1.true) put_none
 
 put-digits-digit-requires : (t : ℕ) → put-digits-lts.Need-digit-requires (
   digit-reads.Asked,
@@ -54,7 +54,7 @@ put-digits-put-requires : (t : ℕ) → put-digits-lts.Need-put-requires (
   put-digits-below t,
   put-digits.Post,
 ) (put-digits-at t) put-digits.Post
-put-digits-put-requires t c κs = omega (arith, rw (digits-one c.before.before.before.before.before.args.most c.before.before.before.before.before.args.n c.before.before.before.if1.false c.before.before.if2.true) at c.before.before.before.before.before.requires.1)
+put-digits-put-requires t c κs = omega (arith, rw (digits_one c.before.before.before.before.before.args.most c.before.before.before.before.before.args.n c.before.before.before.if1.false c.before.before.if2.true) at c.before.before.before.before.before.requires.1)
 
 put-digits-same-length : (t : ℕ) → put-digits-lts.Need-same-length (
   digit-reads.Asked,
@@ -74,7 +74,7 @@ put-digits-returns-2 : (t : ℕ) → put-digits-lts.Need-returns-2 (
   put-digits-below t,
   put-digits.Post,
 ) (put-digits-at t) put-digits.Post
-put-digits-returns-2 t c = rw (digits-one c.before.before.before.before.before.before.before.before.args.most c.before.before.before.before.before.before.before.before.args.n c.before.before.before.before.before.before.if1.false c.before.before.before.before.before.if2.true) (rw c.before.before.before.digit.ensures at c.before.before.put.ensures)
+put-digits-returns-2 t c = rw (digits_one c.before.before.before.before.before.before.before.before.args.most c.before.before.before.before.before.before.before.before.args.n c.before.before.before.before.before.before.if1.false c.before.before.before.before.before.if2.true) (rw c.before.before.before.digit.ensures at c.before.before.put.ensures)
 
 put-digits-sub-put-digits : (t : ℕ) → put-digits-lts.Need-overflow-sub-put-digits (
   digit-reads.Asked,

@@ -1,7 +1,7 @@
 -- `policy_print::put_fields` meets its contract: field after field. Assumes nothing.
 use native.Mathlib.Omega.{arith}
 use lib.ListN.{length-append}
-use Rattle.policy_print.specs.PrintingLaws.{put_then, put-none}
+use Rattle.policy_print.specs.PrintingLaws.{put_then, put_none}
 use borrow.Author.Rules.{rules}
 use Rattle.policy_print.proofs.put_fields.Statement.{statement}
 use Rattle.policy_print.proofs.put_fields.Tie as tie
@@ -43,7 +43,7 @@ returns c =
     (put_then c.before.before.before.before.before.before.before.before.before.before.put-protocol-field.ensures
     (put_then c.before.before.before.before.before.before.put-port-field.ensures
     (put_then c.before.before.put-port-field2.ensures
-    (put-none)))))
+    (put_none)))))
 
 pub put-fields-spec : {M : Type 1} → statement M
 put-fields-spec =

@@ -2,10 +2,10 @@
 use native.Mathlib.Omega.{arith}
 use mathlib.Core.Path.{sym, ◌∙◌}
 use lib.ListN.{length-append}
-use Rattle.selectors.specs.Range.{protocolSize}
-use Rattle.selectors.specs.Ranges.{protocolRange}
-use Rattle.policy_text.specs.Edition1.{protocolText}
-use Rattle.policy_print.specs.PrintingLaws.{put_then, all-text, one-text, two-text, low_fits, protocol-text}
+use Rattle.selectors.specs.Range.{protocol_size}
+use Rattle.selectors.specs.Ranges.{protocol_range}
+use Rattle.policy_text.specs.Edition1.{protocol_text}
+use Rattle.policy_print.specs.PrintingLaws.{put_then, all_text, one_text, two_text, low_fits, protocol-text}
 use borrow.Author.Rules.{rules}
 use Rattle.policy_print.proofs.put_protocol_range.Statement.{statement}
 use Rattle.policy_print.proofs.put_protocol_range.Tie as tie
@@ -17,16 +17,16 @@ slice-aggregate-put-text : tie.Need-slice-aggregate-put-text
 slice-aggregate-put-text c = search rules
 
 put-text-requires : tie.Need-put-text-requires
-put-text-requires c κs = rw (all-text protocolSize protocolText (protocolRange c.before.before.before.before.before.args.range) (sym c.before.before.before.is_any.ensures ∙ c.before.before.if1.true)) at c.before.before.before.before.before.requires
+put-text-requires c κs = rw (all_text protocol_size protocol_text (protocol_range c.before.before.before.before.before.args.range) (sym c.before.before.before.is_any.ensures ∙ c.before.before.if1.true)) at c.before.before.before.before.before.requires
 
 same_length : tie.Need-same-length
 same_length c = search rules
 
 returns : tie.Need-returns
-returns c = rw (all-text protocolSize protocolText (protocolRange c.before.before.before.before.before.before.before.before.args.range) (sym c.before.before.before.before.before.before.is_any.ensures ∙ c.before.before.before.before.before.if1.true)) c.before.before.put-text.ensures
+returns c = rw (all_text protocol_size protocol_text (protocol_range c.before.before.before.before.before.before.before.before.args.range) (sym c.before.before.before.before.before.before.is_any.ensures ∙ c.before.before.before.before.before.if1.true)) c.before.before.put-text.ensures
 
 put-decimal-requires : tie.Need-put-decimal-requires
-put-decimal-requires c κs = omega (arith, rw (protocol-text c.before.before.before.before.before.before.args.range.low (search rules)) at (low_fits protocolSize protocolText (protocolRange c.before.before.before.before.before.before.args.range) (sym c.before.before.before.before.is_any.ensures ∙ c.before.before.before.if1.false)), c.before.before.before.before.before.before.requires)
+put-decimal-requires c κs = omega (arith, rw (protocol-text c.before.before.before.before.before.before.args.range.low (search rules)) at (low_fits protocol_size protocol_text (protocol_range c.before.before.before.before.before.before.args.range) (sym c.before.before.before.before.is_any.ensures ∙ c.before.before.before.if1.false)), c.before.before.before.before.before.before.requires)
 
 same-requires : tie.Need-same-requires
 same-requires c κs = search rules
@@ -35,19 +35,19 @@ same-length-2 : tie.Need-same-length-2
 same-length-2 c = search rules
 
 returns-2 : tie.Need-returns-2
-returns-2 c = rw (one-text protocolSize protocolText (protocolRange c.before.before.before.before.before.before.before.before.before.before.before.args.range) (sym c.before.before.before.before.before.before.before.before.before.is_any.ensures ∙ c.before.before.before.before.before.before.before.before.if1.false) (sym c.before.same.ensures ∙ c.if2.true), protocol-text c.before.before.before.before.before.before.before.before.before.before.before.args.range.low (search rules)) c.before.before.before.before.put-decimal.ensures
+returns-2 c = rw (one_text protocol_size protocol_text (protocol_range c.before.before.before.before.before.before.before.before.before.before.before.args.range) (sym c.before.before.before.before.before.before.before.before.before.is_any.ensures ∙ c.before.before.before.before.before.before.before.before.if1.false) (sym c.before.same.ensures ∙ c.if2.true), protocol-text c.before.before.before.before.before.before.before.before.before.before.before.args.range.low (search rules)) c.before.before.before.before.put-decimal.ensures
 
 put-requires : tie.Need-put-requires
-put-requires c κs = omega (arith, c.before.before.before.before.before.put-decimal.ensures.place, rw (two-text protocolSize protocolText (protocolRange c.before.before.before.before.before.before.before.before.before.before.before.before.args.range) (sym c.before.before.before.before.before.before.before.before.before.before.is_any.ensures ∙ c.before.before.before.before.before.before.before.before.before.if1.false) (sym c.before.before.same.ensures ∙ c.before.if2.false), protocol-text c.before.before.before.before.before.before.before.before.before.before.before.before.args.range.low (search rules), protocol-text c.before.before.before.before.before.before.before.before.before.before.before.before.args.range.high (search rules), length-append) at c.before.before.before.before.before.before.before.before.before.before.before.before.requires)
+put-requires c κs = omega (arith, c.before.before.before.before.before.put-decimal.ensures.place, rw (two_text protocol_size protocol_text (protocol_range c.before.before.before.before.before.before.before.before.before.before.before.before.args.range) (sym c.before.before.before.before.before.before.before.before.before.before.is_any.ensures ∙ c.before.before.before.before.before.before.before.before.before.if1.false) (sym c.before.before.same.ensures ∙ c.before.if2.false), protocol-text c.before.before.before.before.before.before.before.before.before.before.before.before.args.range.low (search rules), protocol-text c.before.before.before.before.before.before.before.before.before.before.before.before.args.range.high (search rules), length-append) at c.before.before.before.before.before.before.before.before.before.before.before.before.requires)
 
 put-decimal-requires-2 : tie.Need-put-decimal-requires-2
-put-decimal-requires-2 c κs = omega (arith, c.before.before.before.put.ensures.place, c.before.before.before.before.before.before.before.before.before.put-decimal.ensures.place, rw (two-text protocolSize protocolText (protocolRange c.before.before.before.before.before.before.before.before.before.before.before.before.before.before.before.before.args.range) (sym c.before.before.before.before.before.before.before.before.before.before.before.before.before.before.is_any.ensures ∙ c.before.before.before.before.before.before.before.before.before.before.before.before.before.if1.false) (sym c.before.before.before.before.before.before.same.ensures ∙ c.before.before.before.before.before.if2.false), protocol-text c.before.before.before.before.before.before.before.before.before.before.before.before.before.before.before.before.args.range.low (search rules), protocol-text c.before.before.before.before.before.before.before.before.before.before.before.before.before.before.before.before.args.range.high (search rules), length-append) at c.before.before.before.before.before.before.before.before.before.before.before.before.before.before.before.before.requires)
+put-decimal-requires-2 c κs = omega (arith, c.before.before.before.put.ensures.place, c.before.before.before.before.before.before.before.before.before.put-decimal.ensures.place, rw (two_text protocol_size protocol_text (protocol_range c.before.before.before.before.before.before.before.before.before.before.before.before.before.before.before.before.args.range) (sym c.before.before.before.before.before.before.before.before.before.before.before.before.before.before.is_any.ensures ∙ c.before.before.before.before.before.before.before.before.before.before.before.before.before.if1.false) (sym c.before.before.before.before.before.before.same.ensures ∙ c.before.before.before.before.before.if2.false), protocol-text c.before.before.before.before.before.before.before.before.before.before.before.before.before.before.before.before.args.range.low (search rules), protocol-text c.before.before.before.before.before.before.before.before.before.before.before.before.before.before.before.before.args.range.high (search rules), length-append) at c.before.before.before.before.before.before.before.before.before.before.before.before.before.before.before.before.requires)
 
 same-length-3 : tie.Need-same-length-3
 same-length-3 c = search rules
 
 returns-3 : tie.Need-returns-3
-returns-3 c = rw (two-text protocolSize protocolText (protocolRange c.before.before.before.before.before.before.before.before.before.before.before.before.before.before.before.before.before.before.before.args.range) (sym c.before.before.before.before.before.before.before.before.before.before.before.before.before.before.before.before.before.is_any.ensures ∙ c.before.before.before.before.before.before.before.before.before.before.before.before.before.before.before.before.if1.false) (sym c.before.before.before.before.before.before.before.before.before.same.ensures ∙ c.before.before.before.before.before.before.before.before.if2.false), protocol-text c.before.before.before.before.before.before.before.before.before.before.before.before.before.before.before.before.before.before.before.args.range.low (search rules), protocol-text c.before.before.before.before.before.before.before.before.before.before.before.before.before.before.before.before.before.before.before.args.range.high (search rules)) (put_then c.before.before.before.before.before.before.before.before.before.before.before.before.put-decimal.ensures (put_then c.before.before.before.before.before.before.put.ensures c.before.before.put-decimal2.ensures))
+returns-3 c = rw (two_text protocol_size protocol_text (protocol_range c.before.before.before.before.before.before.before.before.before.before.before.before.before.before.before.before.before.before.before.args.range) (sym c.before.before.before.before.before.before.before.before.before.before.before.before.before.before.before.before.before.is_any.ensures ∙ c.before.before.before.before.before.before.before.before.before.before.before.before.before.before.before.before.if1.false) (sym c.before.before.before.before.before.before.before.before.before.same.ensures ∙ c.before.before.before.before.before.before.before.before.if2.false), protocol-text c.before.before.before.before.before.before.before.before.before.before.before.before.before.before.before.before.before.before.before.args.range.low (search rules), protocol-text c.before.before.before.before.before.before.before.before.before.before.before.before.before.before.before.before.before.before.before.args.range.high (search rules)) (put_then c.before.before.before.before.before.before.before.before.before.before.before.before.put-decimal.ensures (put_then c.before.before.before.before.before.before.put.ensures c.before.before.put-decimal2.ensures))
 
 pub put-protocol-range-spec : {M : Type 1} → statement M
 put-protocol-range-spec =

@@ -1,7 +1,7 @@
 -- `policy_print::put_row` meets its contract: piece after piece. Assumes nothing.
 use native.Mathlib.Omega.{arith}
 use Rattle.policy.specs.Words.{row_at}
-use Rattle.policy_text.specs.Print.{rowText, toward}
+use Rattle.policy_text.specs.Print.{row_text, toward}
 use Rattle.policy_print.specs.PrintingLaws.{put_then, line-length}
 use borrow.Author.Rules.{rules}
 use Rattle.policy_print.proofs.put_row.Statement.{statement}
@@ -43,7 +43,7 @@ same_length : tie.Need-same-length
 same_length c = search rules
 
 returns : tie.Need-returns
-unfolding rowText row_at
+unfolding row_text row_at
 returns c =
     put_then
     (put_then c.before.before.before.before.before.before.before.before.before.before.before.before.before.before.before.before.before.before.before.put-direction.ensures

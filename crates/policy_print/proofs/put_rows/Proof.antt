@@ -6,9 +6,9 @@ use mathlib.Core.Path.{◌≡◌, refl, sym, ap, ◌∙◌}
 use mathlib.Core.List.{map}
 use lib.ListN.{length, length-append}
 use lib.Seq.{sets}
-use Rattle.policy.specs.Words.{rows_from, policyRows}
+use Rattle.policy.specs.Words.{rows_from, policy_rows}
 use Rattle.policy_text.specs.Edition1.{edition1}
-use Rattle.policy_text.specs.Print.{rowsText, toward}
+use Rattle.policy_text.specs.Print.{rows_text, toward}
 use Rattle.policy_print.specs.PrintingLaws.{put-length, put_rest, rows_more, rows_none}
 use borrow.Author.Rules.{rules}
 use Rattle.policy_print.proofs.put_rows.Statement.{statement}
@@ -18,8 +18,8 @@ abbrev invariant-loop : tie.invariant-loop
 invariant-loop out₀ at rows direction count next₀ i₀ out next i =
     (i ≤ count)
     × (length out ≡ length out₀)
-    × (at + length (rowsText edition1 (map (toward direction) (policyRows rows))) ≡ next + length (rowsText edition1 (map (toward direction) (rows_from rows i (count - i)))))
-    × (sets out₀ at (rowsText edition1 (map (toward direction) (policyRows rows))) ≡ sets out next (rowsText edition1 (map (toward direction) (rows_from rows i (count - i)))))
+    × (at + length (rows_text edition1 (map (toward direction) (policy_rows rows))) ≡ next + length (rows_text edition1 (map (toward direction) (rows_from rows i (count - i)))))
+    × (sets out₀ at (rows_text edition1 (map (toward direction) (policy_rows rows))) ≡ sets out next (rows_text edition1 (map (toward direction) (rows_from rows i (count - i)))))
 
 abbrev decreases-loop : tie.decreases-loop
 decreases-loop out₀ at rows direction count next₀ i₀ out next i = count - i

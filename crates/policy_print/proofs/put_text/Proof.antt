@@ -4,7 +4,7 @@ use native.Mathlib.Omega.{arith}
 use mathlib.Core.Path.{◌≡◌, refl, sym, ◌∙◌}
 use lib.ListN.{length, drop}
 use lib.Seq.{sets}
-use Rattle.policy_print.specs.PrintingLaws.{text-more, text-none, put-length}
+use Rattle.policy_print.specs.PrintingLaws.{text_more, text_none, put-length}
 use borrow.Author.Rules.{rules}
 use Rattle.policy_print.proofs.put_text.Statement.{statement}
 use Rattle.policy_print.proofs.put_text.Tie as tie
@@ -39,7 +39,7 @@ loop-again c =
       search rules,
       omega (arith, p.place, l.invariant.1),
       put-length p ∙ l.invariant.2,
-      rw (p.bytes, p.place) (l.invariant.3 ∙ text-more l.out l.next a.text.now l.i (search rules)),
+      rw (p.bytes, p.place) (l.invariant.3 ∙ text_more l.out l.next a.text.now l.i (search rules)),
     )
 
 same_length : tie.Need-same-length invariant-loop decreases-loop
@@ -49,7 +49,7 @@ returns : tie.Need-returns invariant-loop decreases-loop
 returns c =
     let a = c.before.before.before.before.args in
     let l = c.before.loop in
-    record { place = omega arith; bytes = sym (l.invariant.3 ∙ text-none l.out l.next a.text.now l.i (search rules)) }
+    record { place = omega arith; bytes = sym (l.invariant.3 ∙ text_none l.out l.next a.text.now l.i (search rules)) }
 
 pub put-text-spec : {M : Type 1} → statement M
 put-text-spec =

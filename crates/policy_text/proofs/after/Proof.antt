@@ -2,7 +2,7 @@
 use Prim.Native.Nat.{◌+◌}
 use mathlib.Core.Path.{sym, ◌∙◌}
 use Rattle.policy_text.specs.Bytes.{index, after}
-use Rattle.policy_text.specs.BytesLaws.{part-rest, left-none}
+use Rattle.policy_text.specs.BytesLaws.{part_rest, left_none}
 use borrow.Author.Rules.{rules}
 use Rattle.policy_text.proofs.after.Statement.{statement}
 use Rattle.policy_text.proofs.after.Tie as tie
@@ -24,7 +24,7 @@ part-result-end c = search rules
 
 returns : tie.Need-returns
 unfolding after
-returns c = rw (part-rest, c.before.before.find.ensures.0)
+returns c = rw (part_rest, c.before.before.find.ensures.0)
 
 sub-result-2 : tie.Need-overflow-sub-result-2
 sub-result-2 c = search rules
@@ -39,9 +39,9 @@ returns-2 : tie.Need-returns-2
 unfolding after
 returns-2 c =
     let s = c.before.before.before.before.args.s.now in
-    part-rest s c.before.before.find.result
-    ∙ left-none s c.before.before.find.result (search rules)
-    ∙ sym (left-none s (index c.before.before.before.before.args.b s + 1) (search rules))
+    part_rest s c.before.before.find.result
+    ∙ left_none s c.before.before.find.result (search rules)
+    ∙ sym (left_none s (index c.before.before.before.before.args.b s + 1) (search rules))
 
 pub after-spec : {M : Type 1} → statement M
 after-spec =

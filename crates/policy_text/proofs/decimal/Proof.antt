@@ -5,7 +5,7 @@ use native.Mathlib.Omega.{arith}
 use mathlib.Core.Path.{◌≡◌, sym, ◌∙◌}
 use borrow.Author.Tests.{not-true, not-false}
 use Rattle.policy_text.specs.Decimals.{digits, value}
-use Rattle.policy_text.specs.FormatLaws.{digits-next, digits-below, digits_above, digits-ended, value-next, value-ended, value_grows, decimal-padded, decimal-other, decimal-above, decimal-is}
+use Rattle.policy_text.specs.FormatLaws.{digits-next, digits_below, digits_above, digits_ended, value-next, value_ended, value_grows, decimal-padded, decimal_other, decimal_above, decimal_is}
 use borrow.Author.Rules.{rules}
 use Rattle.policy_text.proofs.decimal.Statement.{statement}
 use Rattle.policy_text.proofs.decimal.Tie as tie
@@ -35,13 +35,13 @@ returns-2 : tie.Need-returns-2 invariant-loop decreases-loop
 returns-2 c =
     let a = c.before.before.before.before.before.before.before.args in
     let l = c.before.before.before.loop in
-    sym (decimal-other a.max a.s.now (l.invariant.2 ∙ digits-below a.s.now l.i (search rules) c.if2.true))
+    sym (decimal_other a.max a.s.now (l.invariant.2 ∙ digits_below a.s.now l.i (search rules) c.if2.true))
 
 returns-3 : tie.Need-returns-3 invariant-loop decreases-loop
 returns-3 c =
     let a = c.before.before.before.before.before.before.before.before.args in
     let l = c.before.before.before.before.loop in
-    sym (decimal-other a.max a.s.now (l.invariant.2 ∙ digits_above a.s.now l.i (search rules) c.if3.true))
+    sym (decimal_other a.max a.s.now (l.invariant.2 ∙ digits_above a.s.now l.i (search rules) c.if3.true))
 
 mul-more : tie.Need-overflow-mul-more invariant-loop decreases-loop
 mul-more c = search rules
@@ -57,7 +57,7 @@ returns-4 c =
     let a = c.before.before.before.before.before.before.before.before.before.before.args in
     let l = c.before.before.before.before.before.before.loop in
     let v = l.invariant.3 ∙ value-next a.s.now l.i l.n (search rules) in
-    sym (decimal-above a.max a.s.now (omega (arith, value_grows (l.n * 10 + (get_or a.s.now l.i 0 - 48)) (drop (l.i + 1) a.s.now))))
+    sym (decimal_above a.max a.s.now (omega (arith, value_grows (l.n * 10 + (get_or a.s.now l.i 0 - 48)) (drop (l.i + 1) a.s.now))))
 
 add-i : tie.Need-overflow-add-i invariant-loop decreases-loop
 add-i c = search rules
@@ -79,9 +79,9 @@ returns-5 : tie.Need-returns-5 invariant-loop decreases-loop
 returns-5 c =
     let a = c.before.before.before.before.before.args in
     let l = c.before.loop in
-    let e : value 0 a.s.now ≡ l.n = l.invariant.3 ∙ value-ended a.s.now l.i l.n (search rules) in
-    sym (decimal-is a.max a.s.now (sym c.before.before.before.unpadded.ensures ∙ not-false _ c.before.before.if1.false)
-    (l.invariant.2 ∙ digits-ended a.s.now l.i (search rules)) (omega arith)
+    let e : value 0 a.s.now ≡ l.n = l.invariant.3 ∙ value_ended a.s.now l.i l.n (search rules) in
+    sym (decimal_is a.max a.s.now (sym c.before.before.before.unpadded.ensures ∙ not-false _ c.before.before.if1.false)
+    (l.invariant.2 ∙ digits_ended a.s.now l.i (search rules)) (omega arith)
     ∙ rw e)
 
 pub decimal-spec : {M : Type 1} → statement M

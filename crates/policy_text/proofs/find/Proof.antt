@@ -4,7 +4,7 @@ use native.Mathlib.Omega.{arith}
 use mathlib.Core.Path.{◌≡◌}
 use lib.ListN.{length, drop}
 use Rattle.policy_text.specs.Bytes.{index}
-use Rattle.policy_text.specs.BytesLaws.{index-here, index-next, index-none}
+use Rattle.policy_text.specs.BytesLaws.{index-here, index-next, index_none}
 use borrow.Author.Rules.{rules}
 use Rattle.policy_text.proofs.find.Statement.{statement}
 use Rattle.policy_text.proofs.find.Tie as tie
@@ -40,7 +40,7 @@ loop-again c =
 returns-2 : tie.Need-returns-2 invariant-loop decreases-loop
 returns-2 c =
     let a = c.before.before.args in
-    omega (arith, index-none a.b a.s.now c.before.loop.i (search rules))
+    omega (arith, index_none a.b a.s.now c.before.loop.i (search rules))
 
 pub find_spec : {M : Type 1} → statement M
 find_spec =

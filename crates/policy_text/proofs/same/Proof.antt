@@ -2,14 +2,14 @@
 use Prim.Native.Nat.{◌≤◌, ◌-◌}
 use mathlib.Core.Path.{◌≡◌, sym, ◌∙◌}
 use lib.ListN.{length, drop}
-use Rattle.policy_text.specs.Bytes.{sameBytes}
-use Rattle.policy_text.specs.BytesLaws.{same_next, same-differ, same-longer, same_ended}
+use Rattle.policy_text.specs.Bytes.{are_same_bytes}
+use Rattle.policy_text.specs.BytesLaws.{same_next, same_differ, same_longer, same_ended}
 use borrow.Author.Rules.{rules}
 use Rattle.policy_text.proofs.same.Statement.{statement}
 use Rattle.policy_text.proofs.same.Tie as tie
 
 abbrev invariant-loop : tie.invariant-loop
-invariant-loop s t i₀ i = (i ≤ length s) × (i ≤ length t) × (sameBytes s t ≡ sameBytes (drop i s) (drop i t))
+invariant-loop s t i₀ i = (i ≤ length s) × (i ≤ length t) × (are_same_bytes s t ≡ are_same_bytes (drop i s) (drop i t))
 
 abbrev decreases-loop : tie.decreases-loop
 decreases-loop s t i₀ i = length s - i
@@ -20,7 +20,7 @@ loop-holds c = search rules
 returns : tie.Need-returns invariant-loop decreases-loop
 returns c =
     let a = c.before.before.before.args in
-    sym (c.before.before.loop.invariant.2 ∙ same-longer a.s.now a.t.now c.before.before.loop.i (search rules) (search rules))
+    sym (c.before.before.loop.invariant.2 ∙ same_longer a.s.now a.t.now c.before.before.loop.i (search rules) (search rules))
 
 shared-slice-read-if2 : tie.Need-shared-slice-read-if2 invariant-loop decreases-loop
 shared-slice-read-if2 c = search rules
@@ -32,7 +32,7 @@ returns-2 : tie.Need-returns-2 invariant-loop decreases-loop
 returns-2 c =
     let a = c.before.before.before.before.before.before.args in
     let l = c.before.before.before.before.before.loop in
-    sym (l.invariant.2 ∙ same-differ a.s.now a.t.now l.i (search rules) (search rules) c.if2.true)
+    sym (l.invariant.2 ∙ same_differ a.s.now a.t.now l.i (search rules) (search rules) c.if2.true)
 
 add-i : tie.Need-overflow-add-i invariant-loop decreases-loop
 add-i c = search rules

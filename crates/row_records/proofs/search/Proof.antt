@@ -57,10 +57,10 @@ use Rattle.selectors.specs.declared.Selectors.{Selectors}
 use Rattle.policy.specs.declared.Action.{Action}
 use Rattle.policy.specs.declared.Action.TheVariants.{Discard}
 use Rattle.policy.specs.Policy.{matches}
-use Rattle.policy.specs.Words.{actionOf, row_of}
+use Rattle.policy.specs.Words.{action_of_word, row_of}
 use Rattle.policy.proofs.action_of.Symbol.{name as #h}
 use Rattle.policy.specs.declared.Row.{Row}
-use Rattle.row_records.specs.SearchLaws.{no_row, searched, match-found, match-passed, match-ended}
+use Rattle.row_records.specs.SearchLaws.{no_row, searched, match-found, match_passed, match_ended}
 use Rattle.row_records.proofs.row_matches.Symbol.{name as #g}
 use Rattle.row_records.specs.contracts.search.Key.{name as #f}
 use Rattle.selectors.specs.contracts.Direction as D
@@ -192,8 +192,8 @@ module _ {M : Type 1} {𝓤 : Ura M} (𝓛 : Logic 𝓤) (mem : Memory → SProp
   asked-h : (w : ℕ) → ent 𝓤 (sep 𝓤 (sem 𝓛 ftrue) (sem 𝓛 (owns (u64 ∷ []) (w, tt) (vint w64 w ∷ [], tt)))) ((Acts 𝓛 mem run).pre (to-h w))
   asked-h w = qed 𝓛 (‵ ftrue ∷ ‵ (owns (u64 ∷ []) (w, tt) (vint w64 w ∷ [], tt)) ∷ []) ∵ join ! $ frame ! $ done !
 
-  said-h : (w : ℕ) (a : Action) → ent 𝓤 (ensured 𝓛 h.ended (h.clauses 𝓛 mem run) tt (w, tt) tt a) (fact 𝓤 (a ≡ actionOf w))
-  said-h w a = ex_e 𝓤 _ (λ ws. snd∗ 𝓤 (sem 𝓛 (lasts h.ended tt (w, tt) ws)) (fact 𝓤 (a ≡ actionOf w)))
+  said-h : (w : ℕ) (a : Action) → ent 𝓤 (ensured 𝓛 h.ended (h.clauses 𝓛 mem run) tt (w, tt) tt a) (fact 𝓤 (a ≡ action_of_word w))
+  said-h w a = ex_e 𝓤 _ (λ ws. snd∗ 𝓤 (sem 𝓛 (lasts h.ended tt (w, tt) ws)) (fact 𝓤 (a ≡ action_of_word w)))
 
   -- the loop's variant: an index with no match before it, ordered by what is left
   abbrev Upto : Type 0
@@ -259,7 +259,7 @@ module _ {M : Type 1} {𝓤 : Ura M} (𝓛 : Logic 𝓤) (mem : Memory → SProp
         (λ hit. nothing ! $ owned ! u64 (Is u64) (uint_Makes 𝓛 w64) (at_row i).action _ (refl, action-fits (at_row i) is) $ fjoin ! $ nothing ! $ use2 𝓛 (raw ((Acts 𝓛 mem run).pre (to-h (at_row i).action))) (asked-h (at_row i).action) $
         calls_at ! fm (Acts 𝓛 mem run) known-h (to-h (at_row i).action) (and_then ! (load ! (from ! (fld ! refl (stop !))) (look_in ! 15 (sub ! 1 refl (whole !)))) (no_more !)) (λ w.
         use1 𝓛 (later (some (λ (a : Action). (‵ ftrue ⊛ Own a w) ⊛ raw (ensured 𝓛 h.ended (h.clauses 𝓛 mem run) tt ((at_row i).action, tt) tt a)))) (id⊢ 𝓤 _) $ await ! tt $ pick ! (λ a.
-        split ! $ move ! (1 ∷ []) $ use1 𝓛 (raw (fact 𝓤 (a ≡ actionOf (at_row i).action))) (said-h (at_row i).action a) $ heard ! (a ≡ actionOf (at_row i).action) (λ acts. split ! $ let_go ! $
+        split ! $ move ! (1 ∷ []) $ use1 𝓛 (raw (fact 𝓤 (a ≡ action_of_word (at_row i).action))) (said-h (at_row i).action a) $ heard ! (a ≡ action_of_word (at_row i).action) (λ acts. split ! $ let_go ! $
         peeks ! B.the_row (Is B.the_row) (shows 𝓛 B.the_row) a (w ∷ []) (λ is-act.
         land ! (from ! (stop !)) (init ! 25 refl ((EL.lawful B.the_type B'.the_laws 𝓛 tt).typed a _ is-act).0) $
         move ! (1 ∷ 2 ∷ []) $ shuts_slice ! tt R q' ys b o $ returns_within ! Post refl (look ! 24 refl) $
@@ -272,7 +272,7 @@ module _ {M : Type 1} {𝓤 : Ura M} (𝓛 : Logic 𝓤) (mem : Memory → SProp
         (λ miss. skips ! $ exec ! C Λ En more (any_q (Turned i)) $
         assigns_last ! (bin ! (load ! (from ! (stop !)) (look ! 16 refl)) (lit ! tt) (record { fits = next_fits gn.0 l })) (from ! (stop !)) (store ! 16 refl (tt, record { fits = next_fits gn.0 l })) $
         forget ! 4 refl $ forget ! 6 refl $ forget ! 8 refl $ forget ! 10 refl $ forget ! 12 refl $ forget ! 14 refl $
-        again ! Nearer At i (i.0 + 1, (add-one-le l, match-passed d vs ys i.0 i.1.1 l (sym tested ∙ fails t miss))) (add-one-dec n i.0 l)))))))
+        again ! Nearer At i (i.0 + 1, (add-one-le l, match_passed d vs ys i.0 i.1.1 l (sym tested ∙ fails t miss))) (add-one-dec n i.0 l)))))))
 
     -- there is none: the loop is left, the slice is shut, and `Discard` is returned
     no-more-rows : (i : Upto) → ltb i.0 n ≡ false → Sq 𝓛 (At i) (runs C Λ En code-mir.turn-1 (any_q (Turned i)))
@@ -287,7 +287,7 @@ module _ {M : Type 1} {𝓤 : Ura M} (𝓛 : Logic 𝓤) (mem : Memory → SProp
         forget ! 10 refl $ forget ! 12 refl $ forget ! 16 refl $ forget ! 18 refl $ forget ! 20 refl $ forget ! 22 refl $ forget ! 24 refl $
         move ! (24 ∷ 25 ∷ []) $ free1 ! $ move ! (22 ∷ 23 ∷ []) $ free1 ! $ move ! (20 ∷ 21 ∷ []) $ free1 ! $ move ! (18 ∷ 19 ∷ []) $ free1 ! $ move ! (16 ∷ 17 ∷ []) $ free1 ! $ move ! (14 ∷ 15 ∷ []) $ free1 ! $
         move ! (12 ∷ 13 ∷ []) $ free1 ! $ move ! (10 ∷ 11 ∷ []) $ free1 ! $ move ! (8 ∷ 9 ∷ []) $ free1 ! $ move ! (6 ∷ 7 ∷ []) $ free1 ! $ move ! (4 ∷ 5 ∷ []) $ free1 ! $ free0 ! $
-        keep ! (0 ∷ 1 ∷ 2 ∷ 3 ∷ []) $ by ! (exits Discard (only (avals Discard)) (match-ended d vs ys i.0 i.1.1 (ltb-false i.0 n e)))
+        keep ! (0 ∷ 1 ∷ 2 ∷ 3 ∷ []) $ by ! (exits Discard (only (avals Discard)) (match_ended d vs ys i.0 i.1.1 (ltb-false i.0 n e)))
 
     turn_at : (i : Upto) (t : Bool) → ltb i.0 n ≡ t → Sq 𝓛 (At i) (runs C Λ En code-mir.turn-1 (any_q (Turned i)))
     turn_at i true e = more_rows i (ltb-true i.0 n e) e

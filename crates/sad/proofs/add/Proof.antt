@@ -1,6 +1,6 @@
 -- `sad::add` meets its contract: the refusals in their order, and then the lowest free place. Assumes nothing.
-use Rattle.sad.specs.PairsLaws.{first-bound, add-reserved, add-bad, add-live, add-full, add_at}
-use Rattle.sad.specs.Pairs.{placeCount, freeAt, freePlace, reservedSpi, wellFormed}
+use Rattle.sad.specs.PairsLaws.{first_bound, add_reserved, add_bad, add-live, add-full, add_at}
+use Rattle.sad.specs.Pairs.{place_count, free_at, free_place, reserved_spi, well_formed}
 use Rattle.sad.specs.declared.Place.TheVariants.{At}
 use Prim.Native.Nat.{◌<◌}
 use mathlib.Core.Bool.{true, false}
@@ -12,24 +12,24 @@ use Rattle.sad.proofs.add.Statement.{statement}
 use Rattle.sad.proofs.add.Tie as tie
 
 -- The free place is one of the places.
-is_free : (c : tie.After-put-pair-arg) → freePlace c.before.before.before.before.before.before.before.before.before.before.before.before.before.args.table.now ≡ At c.before.before.free.given.0.0
+is_free : (c : tie.After-put-pair-arg) → free_place c.before.before.before.before.before.before.before.before.before.before.before.before.before.args.table.now ≡ At c.before.before.free.given.0.0
 is_free c = sym c.before.before.before.before.free-place.ensures ∙ c.before.before.free.given.1
 
-place_in : (c : tie.After-put-pair-arg) → c.before.before.free.given.0.0 < placeCount
-place_in c = first-bound (freeAt c.before.before.before.before.before.before.before.before.before.before.before.before.before.args.table.now) 0 placeCount _ (is_free c)
+place_in : (c : tie.After-put-pair-arg) → c.before.before.free.given.0.0 < place_count
+place_in c = first_bound (free_at c.before.before.before.before.before.before.before.before.before.before.before.before.before.args.table.now) 0 place_count _ (is_free c)
 
 is-reserved-requires : tie.Need-is-reserved-requires
 is-reserved-requires c κs = search rules
 
 returns : tie.Need-returns
-returns c = add-reserved c.before.before.args.table.now c.before.before.args.pair (sym c.before.is-reserved.ensures ∙ c.if1.true)
+returns c = add_reserved c.before.before.args.table.now c.before.before.args.pair (sym c.before.is-reserved.ensures ∙ c.if1.true)
 
 is-well-formed-requires : tie.Need-is-well-formed-requires
 is-well-formed-requires c κs = search rules
 
 returns-2 : tie.Need-returns-2
 returns-2 c =
-    add-bad c.before.before.before.before.args.table.now c.before.before.before.before.args.pair (sym c.before.before.before.is-reserved.ensures ∙ c.before.before.if1.false) (sym c.before.is-well-formed.ensures ∙ not-true _ c.if2.true)
+    add_bad c.before.before.before.before.args.table.now c.before.before.before.before.args.pair (sym c.before.before.before.is-reserved.ensures ∙ c.before.before.if1.false) (sym c.before.is-well-formed.ensures ∙ not-true _ c.if2.true)
 
 is-live-requires : tie.Need-is-live-requires
 is-live-requires c κs = search rules

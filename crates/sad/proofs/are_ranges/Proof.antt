@@ -1,5 +1,5 @@
 -- `sad::are_ranges` meets its contract: range by range, as the definition goes. Assumes nothing.
-use Rattle.sad.specs.Pairs.{rangesIn}
+use Rattle.sad.specs.Pairs.{ranges_in_fields}
 use borrow.Author.Tests.{not-true, not-false}
 use mathlib.Core.Path.{sym, ◌∙◌}
 use borrow.Author.Rules.{rules}
@@ -10,14 +10,14 @@ is-address-range-requires : tie.Need-is-address-range-requires
 is-address-range-requires c κs = search rules
 
 returns : tie.Need-returns
-unfolding rangesIn
+unfolding ranges_in_fields
 returns c = rw (sym c.before.is-address-range.ensures ∙ not-true _ c.if1.true)
 
 is-address-range-requires-2 : tie.Need-is-address-range-requires-2
 is-address-range-requires-2 c κs = search rules
 
 returns-2 : tie.Need-returns-2
-unfolding rangesIn
+unfolding ranges_in_fields
 returns-2 c =
     rw (
       sym c.before.before.before.is-address-range.ensures ∙ not-false _ c.before.before.if1.false,
@@ -28,7 +28,7 @@ is-protocol-range-requires : tie.Need-is-protocol-range-requires
 is-protocol-range-requires c κs = search rules
 
 returns-3 : tie.Need-returns-3
-unfolding rangesIn
+unfolding ranges_in_fields
 returns-3 c =
     rw (
       sym c.before.before.before.before.before.is-address-range.ensures ∙ not-false _ c.before.before.before.before.if1.false,
@@ -40,7 +40,7 @@ is-port-range-requires : tie.Need-is-port-range-requires
 is-port-range-requires c κs = search rules
 
 returns-4 : tie.Need-returns-4
-unfolding rangesIn
+unfolding ranges_in_fields
 returns-4 c =
     rw (
       sym c.before.before.before.before.before.before.before.is-address-range.ensures ∙ not-false _ c.before.before.before.before.before.before.if1.false,
@@ -53,7 +53,7 @@ is-port-range-requires-2 : tie.Need-is-port-range-requires-2
 is-port-range-requires-2 c κs = search rules
 
 returns-5 : tie.Need-returns-5
-unfolding rangesIn
+unfolding ranges_in_fields
 returns-5 c =
     rw (
       sym c.before.before.before.before.before.before.before.before.is-address-range.ensures ∙ not-false _ c.before.before.before.before.before.before.before.if1.false,

@@ -4,19 +4,19 @@ use Prim.Native.Nat.{◌≤◌, ◌-◌}
 use mathlib.Core.Option.{none}
 use mathlib.Core.Path.{◌≡◌, refl, sym, ◌∙◌}
 use Rattle.selectors.specs.Words.{values_of}
-use Rattle.sad.specs.Pairs.{placeCount, pairs, pairsFrom, bestOf, chosen}
-use Rattle.sad.specs.PairsLaws.{best-next, best-ended}
+use Rattle.sad.specs.Pairs.{place_count, pairs, pairs_from, best_of, chosen}
+use Rattle.sad.specs.PairsLaws.{best-next, best_ended}
 use borrow.Author.Rules.{rules}
 use Rattle.sad.proofs.best_place.Statement.{statement}
 use Rattle.sad.proofs.best_place.Tie as tie
 
 abbrev invariant-loop : tie.invariant-loop
 invariant-loop table number values best₀ place₀ best place =
-    (place ≤ placeCount)
-    × (bestOf number (values_of values) none (pairs table) ≡ bestOf number (values_of values) (chosen table best) (pairsFrom table place (placeCount - place)))
+    (place ≤ place_count)
+    × (best_of number (values_of values) none (pairs table) ≡ best_of number (values_of values) (chosen table best) (pairs_from table place (place_count - place)))
 
 abbrev decreases-loop : tie.decreases-loop
-decreases-loop table number values best₀ place₀ best place = placeCount - place
+decreases-loop table number values best₀ place₀ best place = place_count - place
 
 loop-holds : tie.Need-loop-init invariant-loop decreases-loop
 unfolding chosen
@@ -40,7 +40,7 @@ loop-again c =
 returns : tie.Need-returns invariant-loop decreases-loop
 returns c =
     let a = c.before.before.args in
-    sym (c.before.loop.invariant.1 ∙ best-ended a.table.now a.number (values_of a.values.now) c.before.loop.best c.before.loop.place (search rules))
+    sym (c.before.loop.invariant.1 ∙ best_ended a.table.now a.number (values_of a.values.now) c.before.loop.best c.before.loop.place (search rules))
 
 pub best-place-spec : {M : Type 1} → statement M
 best-place-spec =

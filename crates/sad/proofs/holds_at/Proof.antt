@@ -1,8 +1,8 @@
 -- `sad::holds_at` meets its contract: the words of the place are there. Assumes nothing.
 use Prim.Native.Nat.{◌+◌, ◌*◌}
 use mathlib.Core.Path.{◌∙◌}
-use Rattle.selectors.specs.HeldLaws.{held-five}
-use Rattle.sad.specs.Pairs.{placeWords, headWords}
+use Rattle.selectors.specs.HeldLaws.{held_five}
+use Rattle.sad.specs.Pairs.{place_words, head_words}
 use borrow.Author.Rules.{rules}
 use Rattle.sad.proofs.holds_at.Statement.{statement}
 use Rattle.sad.proofs.holds_at.Tie as tie
@@ -19,7 +19,7 @@ ranges-hold-requires c κs = search rules
 returns : tie.Need-returns
 returns c =
     let a = c.before.before.args in
-    c.ranges-hold.ensures ∙ held-five a.table.now (a.place * placeWords + headWords) a.values.now (search rules)
+    c.ranges-hold.ensures ∙ held_five a.table.now (a.place * place_words + head_words) a.values.now (search rules)
 
 pub holds-at-spec : {M : Type 1} → statement M
 holds-at-spec = tie.close (tie.spec mul-ranges-hold add-ranges-hold ranges-hold-requires returns)

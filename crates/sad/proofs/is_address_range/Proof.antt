@@ -1,5 +1,5 @@
 -- `sad::is_address_range` meets its contract: the constructor's answer. Assumes nothing.
-use Rattle.sad.specs.PairsLaws.{addressMade, chosen-made}
+use Rattle.sad.specs.PairsLaws.{address_made, chosen-made}
 use mathlib.Core.Path.{refl, sym, ap, ◌∙◌}
 use borrow.Author.Rules.{rules}
 use Rattle.sad.proofs.is_address_range.Statement.{statement}
@@ -15,10 +15,10 @@ enum-told-2 : tie.Need-enum-told-2
 enum-told-2 c = search rules
 
 returns : tie.Need-returns
-returns c = sym (ap addressMade c.enum_told.given.1) ∙ ap addressMade c.before.before.new.ensures ∙ chosen-made addressMade _ _ refl refl _
+returns c = sym (ap address_made c.enum_told.given.1) ∙ ap address_made c.before.before.new.ensures ∙ chosen-made address_made _ _ refl refl _
 
 returns-2 : tie.Need-returns-2
-returns-2 c = sym (ap addressMade c.enum-told2.given.1) ∙ ap addressMade c.before.before.new.ensures ∙ chosen-made addressMade _ _ refl refl _
+returns-2 c = sym (ap address_made c.enum-told2.given.1) ∙ ap address_made c.before.before.new.ensures ∙ chosen-made address_made _ _ refl refl _
 
 pub is-address-range-spec : {M : Type 1} → statement M
 is-address-range-spec = tie.close (tie.spec new-requires enum_told enum-told-2 returns returns-2)

@@ -1,6 +1,6 @@
 -- `sad::is_better` meets its contract: nothing to beat, the same inbound SPI, or another. Assumes nothing.
-use Rattle.sad.specs.PairsLaws.{before-tied, before-other}
-use Rattle.sad.specs.Pairs.{placeCount, pair_at, before, chosen}
+use Rattle.sad.specs.PairsLaws.{before_tied, before_other}
+use Rattle.sad.specs.Pairs.{place_count, pair_at, before, chosen}
 use borrow.Author.Tests.{lt-ltb, le-ltb}
 use borrow.Author.Rules.{rules}
 use Rattle.sad.proofs.is_better.Statement.{statement}
@@ -8,7 +8,7 @@ use Rattle.sad.proofs.is_better.Tie as tie
 
 returns : tie.Need-returns
 unfolding chosen
-returns c = rw (le-ltb _ placeCount c.if1.true)
+returns c = rw (le-ltb _ place_count c.if1.true)
 
 mul_at : tie.Need-overflow-mul-at
 mul_at c = search rules
@@ -50,7 +50,7 @@ returns-2 : tie.Need-returns-2
 unfolding pair_at chosen
 returns-2 c =
     let a = c.before.before.before.before.before.before.args in
-    rw (lt-ltb _ placeCount c.before.before.before.before.before.if1.false) (before-tied (pair_at a.table.now a.place) (pair_at a.table.now a.best) c.before.before.if2.true)
+    rw (lt-ltb _ place_count c.before.before.before.before.before.if1.false) (before_tied (pair_at a.table.now a.place) (pair_at a.table.now a.best) c.before.before.if2.true)
 
 add-result : tie.Need-overflow-add-result
 add-result c = search rules
@@ -74,7 +74,7 @@ returns-3 : tie.Need-returns-3
 unfolding pair_at chosen
 returns-3 c =
     let a = c.before.before.before.before.before.before.args in
-    rw (lt-ltb _ placeCount c.before.before.before.before.before.if1.false) (before-other (pair_at a.table.now a.place) (pair_at a.table.now a.best) c.before.before.if2.false)
+    rw (lt-ltb _ place_count c.before.before.before.before.before.if1.false) (before_other (pair_at a.table.now a.place) (pair_at a.table.now a.best) c.before.before.if2.false)
 
 pub is-better-spec : {M : Type 1} → statement M
 is-better-spec =

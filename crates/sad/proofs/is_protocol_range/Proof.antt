@@ -1,5 +1,5 @@
 -- `sad::is_protocol_range` meets its contract: the constructor's answer. Assumes nothing.
-use Rattle.sad.specs.PairsLaws.{protocolMade, chosen-made}
+use Rattle.sad.specs.PairsLaws.{protocol_made, chosen-made}
 use mathlib.Core.Path.{refl, sym, ap, ◌∙◌}
 use borrow.Author.Rules.{rules}
 use Rattle.sad.proofs.is_protocol_range.Statement.{statement}
@@ -15,10 +15,10 @@ enum-told-2 : tie.Need-enum-told-2
 enum-told-2 c = search rules
 
 returns : tie.Need-returns
-returns c = sym (ap protocolMade c.enum_told.given.1) ∙ ap protocolMade c.before.before.new.ensures ∙ chosen-made protocolMade _ _ refl refl _
+returns c = sym (ap protocol_made c.enum_told.given.1) ∙ ap protocol_made c.before.before.new.ensures ∙ chosen-made protocol_made _ _ refl refl _
 
 returns-2 : tie.Need-returns-2
-returns-2 c = sym (ap protocolMade c.enum-told2.given.1) ∙ ap protocolMade c.before.before.new.ensures ∙ chosen-made protocolMade _ _ refl refl _
+returns-2 c = sym (ap protocol_made c.enum-told2.given.1) ∙ ap protocol_made c.before.before.new.ensures ∙ chosen-made protocol_made _ _ refl refl _
 
 pub is-protocol-range-spec : {M : Type 1} → statement M
 is-protocol-range-spec = tie.close (tie.spec new-requires enum_told enum-told-2 returns returns-2)

@@ -2,15 +2,15 @@
 use mathlib.Core.Path.{◌≡◌, sym, ap, ◌∙◌}
 use Rattle.selectors.specs.Value.{combination}
 use Rattle.selectors.specs.Words.{values_of}
-use Rattle.selectors.specs.WordsLaws.{selector-values}
-use Rattle.sad.specs.PairsLaws.{pair_found, pair-nothing}
+use Rattle.selectors.specs.WordsLaws.{selector_values}
+use Rattle.sad.specs.PairsLaws.{pair_found, pair_nothing}
 use borrow.Author.Rules.{rules}
 use Rattle.sad.proofs.pair_for.Statement.{statement}
 use Rattle.sad.proofs.pair_for.Tie as tie
 
 -- The words are those of the selectors.
 values-are : (c : tie.After-selector-words) → combination c.before.args.selectors ≡ values_of c.selector-words.result
-values-are c = sym (selector-values c.before.args.selectors) ∙ ap values_of (sym c.selector-words.ensures)
+values-are c = sym (selector_values c.before.args.selectors) ∙ ap values_of (sym c.selector-words.ensures)
 
 selector-words-requires : tie.Need-selector-words-requires
 selector-words-requires c κs = search rules
@@ -44,7 +44,7 @@ returns c =
 returns-2 : tie.Need-returns-2
 returns-2 c =
     let a = c.before.before.before.before.args in
-    rw (values-are c.before.before.before) (pair-nothing a.table.now a.number (values_of c.before.before.before.selector-words.result) _ c.before.best-place.ensures c.if1.false)
+    rw (values-are c.before.before.before) (pair_nothing a.table.now a.number (values_of c.before.before.before.selector-words.result) _ c.before.best-place.ensures c.if1.false)
 
 pub pair-for-spec : {M : Type 1} → statement M
 pair-for-spec =

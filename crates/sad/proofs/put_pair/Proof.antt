@@ -3,7 +3,7 @@ use Prim.Native.Nat.{suc, ◌+◌}
 use native.Mathlib.Omega.{arith}
 use native.Mathlib.Numerals.{add-one}
 use mathlib.Core.Path.{◌≡◌, ◌∙◌}
-use Rattle.sad.specs.Pairs.{pairWords}
+use Rattle.sad.specs.Pairs.{pair_words}
 use borrow.Author.Rules.{rules}
 use Rattle.sad.proofs.put_pair.Statement.{statement}
 use Rattle.sad.proofs.put_pair.Tie as tie
@@ -45,7 +45,7 @@ same_length : tie.Need-same-length
 same_length c = search rules
 
 returns : tie.Need-returns
-unfolding pairWords
+unfolding pair_words
 returns c =
     let a = c.before.before.before.before.before.before.before.before.before.before.before.before.before.before.before.before.before.before.before.before.before.before.before.args in
     let e4 : a.at + 4 ≡ suc (suc (suc (suc a.at))) = omega arith in

@@ -4,7 +4,7 @@ use native.Mathlib.Omega.{arith}
 use mathlib.Core.Path.{◌≡◌, refl, sym, ap, subst, ◌∙◌}
 use mathlib.Core.List.{List}
 use lib.ListN.{length, take, length-take}
-use Rattle.policy.specs.Words.{rowWords, policyRows, rowLimit}
+use Rattle.policy.specs.Words.{row_words, policy_rows, row_limit}
 use Rattle.policy_text.specs.declared.File.{File}
 use Rattle.policy_text.specs.declared.File.TheVariants.{Rows, Refused}
 use Rattle.policy_parse.specs.TakenLaws.{Taken, Told, told}
@@ -17,17 +17,17 @@ use Rattle.same_policy.proofs.compare_file.Statement.{statement}
 use Rattle.same_policy.proofs.compare_file.Tie as tie
 
 -- What the parser's answer says of the file.
-says : (c : tie.After-parse-policy) (f : File) → c.parse-policy.result ≡ f → Told rowLimit c.before.before.before.before.args.second.now c.parse-policy.last.1.0 f
+says : (c : tie.After-parse-policy) (f : File) → c.parse-policy.result ≡ f → Told row_limit c.before.before.before.before.args.second.now c.parse-policy.last.1.0 f
 says c f e =
     let s = c.before.before.before.before.args.second.now in
-    subst (λ (room : List ℕ). Told rowLimit s room f) (sym c.parse-policy.ensures.1) (told rowLimit s _ f (sym e ∙ c.parse-policy.ensures.0))
+    subst (λ (room : List ℕ). Told row_limit s room f) (sym c.parse-policy.ensures.1) (told row_limit s _ f (sym e ∙ c.parse-policy.ensures.0))
 
-got : (c : tie.After-file) → Taken rowLimit c.before.before.before.before.before.before.args.second.now c.file.given.0.0 c.file.given.0.1.0 c.before.before.parse-policy.last.1.0
+got : (c : tie.After-file) → Taken row_limit c.before.before.before.before.before.before.args.second.now c.file.given.0.0 c.file.given.0.1.0 c.before.before.parse-policy.last.1.0
 unfolding Told
 got c = says c.before.before (Rows c.file.given.0.0 c.file.given.0.1.0) c.file.given.1
 
-fits : (c : tie.After-known-told) → c.before.file.given.0.1.0 * rowWords ≤ length c.before.before.before.parse-policy.last.1.0
-fits c = (got c.before).words-fit
+fits : (c : tie.After-known-told) → c.before.file.given.0.1.0 * row_words ≤ length c.before.before.before.parse-policy.last.1.0
+fits c = (got c.before).words_fit
 
 parse-policy-requires : tie.Need-parse-policy-requires
 parse-policy-requires c κs = search rules
@@ -54,10 +54,10 @@ returns : tie.Need-returns
 returns c =
     let k = c.before.before.before in
     let s = k.before.before.before.before.before.before in
-    let first = rules s.args.edition (policyRows s.args.first.now) in
+    let first = rules s.args.edition (policy_rows s.args.first.now) in
     let one : s.args.edition ≡ k.file.given.0.0 = only_one _ ∙ sym (only_one _) in
     c.compare-rows.ensures
-    ∙ ap (λ (e : Edition). compared s.args.direction (rows first) (rows (rules e (policyRows (take (k.file.given.0.1.0 * rowWords) k.before.before.parse-policy.last.1.0))))) one
+    ∙ ap (λ (e : Edition). compared s.args.direction (rows first) (rows (rules e (policy_rows (take (k.file.given.0.1.0 * row_words) k.before.before.parse-policy.last.1.0))))) one
     ∙ ap (λ (f : Policy). compared s.args.direction (rows first) f) (sym (got k).is)
 
 returns-2 : tie.Need-returns-2

@@ -2,18 +2,18 @@
 use mathlib.Core.Path.{◌≡◌, ap, sym, ◌∙◌}
 use mathlib.Core.Bool.{Bool, cond}
 use borrow.Author.Rules.{rules}
-use Rattle.policy.specs.Words.{policyRows}
+use Rattle.policy.specs.Words.{policy_rows}
 use Rattle.policy_text.specs.Editions.{rules, rows}
 use Rattle.same_policy.specs.declared.Compared.TheVariants.{Same, Different}
 use Rattle.same_policy.specs.Same.{compared}
-use Rattle.same_policy.specs.SameLaws.{by-agreement}
+use Rattle.same_policy.specs.SameLaws.{by_agreement}
 use Rattle.same_policy.proofs.compare_rows.Statement.{statement}
 use Rattle.same_policy.proofs.compare_rows.Tie as tie
 
 -- The answer, by what `same` says.
 answer : (c : tie.After-same) (b : Bool) → c.same.result ≡ b
-    → cond b Same Different ≡ compared c.before.before.before.args.direction (rows (rules c.before.before.before.args.edition (policyRows c.before.before.before.args.first.now))) (rows (rules c.before.before.before.args.edition (policyRows c.before.before.before.args.second.now)))
-answer c b e = ap (λ (t : Bool). cond t Same Different) (sym e) ∙ by-agreement _ c.before.before.before.args.edition _ _ c.same.result c.same.ensures
+    → cond b Same Different ≡ compared c.before.before.before.args.direction (rows (rules c.before.before.before.args.edition (policy_rows c.before.before.before.args.first.now))) (rows (rules c.before.before.before.args.edition (policy_rows c.before.before.before.args.second.now)))
+answer c b e = ap (λ (t : Bool). cond t Same Different) (sym e) ∙ by_agreement _ c.before.before.before.args.edition _ _ c.same.result c.same.ensures
 
 same-requires : tie.Need-same-requires
 same-requires c κs = search rules

@@ -2,8 +2,8 @@
 use mathlib.Core.Path.{sym, ap, ◌∙◌}
 use mathlib.Core.Bool.{not}
 use borrow.Author.Tests.{ltb-true, ltb-false}
-use Rattle.selectors.specs.RangeLaws.{contains-below, contains-not-below}
-use Rattle.selectors.specs.BetweenLaws.{same-upper, other-upper}
+use Rattle.selectors.specs.RangeLaws.{contains_below, contains_not_below}
+use Rattle.selectors.specs.BetweenLaws.{same_upper, other_upper}
 use borrow.Author.Rules.{rules}
 use Rattle.selectors.proofs.between.Statement.{statement}
 use Rattle.selectors.proofs.between.Tie as tie
@@ -14,18 +14,18 @@ within-requires c κs = search rules
 returns : tie.Need-returns
 returns c =
     let a = c.before.before.before.before.before.before.before.args in
-    c.within.ensures ∙ same-upper a.low a.high a.value c.before.before.before.before.if1.true c.before.if2.true
+    c.within.ensures ∙ same_upper a.low a.high a.value c.before.before.before.before.if1.true c.before.if2.true
 
 returns-2 : tie.Need-returns-2
 returns-2 c =
     let a = c.before.before.before.before.before.before.args in
-    sym (other-upper a.low a.high a.value c.before.before.before.if1.true (search rules) (search rules) c.if2.false)
+    sym (other_upper a.low a.high a.value c.before.before.before.if1.true (search rules) (search rules) c.if2.false)
 
 less-requires : tie.Need-less-requires
 less-requires c κs = search rules
 
 returns-3 : tie.Need-returns-3
-returns-3 c = sym (contains-below _ _ (ltb-true _ _ (sym c.before.less.ensures ∙ c.if3.true)))
+returns-3 c = sym (contains_below _ _ (ltb-true _ _ (sym c.before.less.ensures ∙ c.if3.true)))
 
 less-requires-2 : tie.Need-less-requires-2
 less-requires-2 c κs = search rules
@@ -33,7 +33,7 @@ less-requires-2 c κs = search rules
 returns-4 : tie.Need-returns-4
 returns-4 c =
     ap not c.less2.ensures
-    ∙ contains-not-below _ _ (ltb-false _ _ (sym c.before.before.less.ensures ∙ c.before.if3.false))
+    ∙ contains_not_below _ _ (ltb-false _ _ (sym c.before.before.less.ensures ∙ c.before.if3.false))
 
 pub between-spec : {M : Type 1} → statement M
 between-spec =

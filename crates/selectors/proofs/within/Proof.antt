@@ -2,13 +2,13 @@
 use mathlib.Core.Path.{sym}
 use borrow.Author.Tests.{le-leb}
 use Rattle.selectors.specs.Range.{range, contains}
-use Rattle.selectors.specs.RangeLaws.{contains-below}
+use Rattle.selectors.specs.RangeLaws.{contains_below}
 use borrow.Author.Rules.{rules}
 use Rattle.selectors.proofs.within.Statement.{statement}
 use Rattle.selectors.proofs.within.Tie as tie
 
 returns : tie.Need-returns
-returns c = sym (contains-below (range _ _) _ c.if1.true)
+returns c = sym (contains_below (range _ _) _ c.if1.true)
 
 returns-2 : tie.Need-returns-2
 unfolding contains

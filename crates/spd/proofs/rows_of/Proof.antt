@@ -3,7 +3,7 @@ use Prim.Native.Nat.{◌+◌, ◌-◌, ◌*◌}
 use native.Mathlib.Omega.{arith}
 use mathlib.Core.Path.{◌≡◌}
 use borrow.Author.Rules.{rules}
-use Rattle.policy.specs.Words.{rowWords}
+use Rattle.policy.specs.Words.{row_words}
 use Rattle.spd.proofs.rows_of.Statement.{statement}
 use Rattle.spd.proofs.rows_of.Tie as tie
 
@@ -44,7 +44,7 @@ returns : tie.Need-returns
 returns c =
     let start = c.before.rows_at.result in
     let n = c.before.before.capped.result in
-    let e : start + n * rowWords - start ≡ n * rowWords = omega arith in
+    let e : start + n * row_words - start ≡ n * row_words = omega arith in
     rw (e, c.before.rows_at.ensures.0, c.before.before.capped.ensures, c.before.before.before.before.count_at.ensures.0)
 
 pub rows-of-spec : {M : Type 1} → statement M

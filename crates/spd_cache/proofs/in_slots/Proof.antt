@@ -19,7 +19,7 @@ first-match-requires : tie.Need-first-match-requires
 first-match-requires c κs = search rules
 
 returns : tie.Need-returns
-returns c = c.first-match.ensures ∙ rw c.before.before.capped.ensures
+returns c = c.first_match.ensures ∙ rw c.before.before.capped.ensures
 
 pub in-slots-spec : {M : Type 1} → statement M
 in-slots-spec =

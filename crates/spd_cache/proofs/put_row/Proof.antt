@@ -5,16 +5,16 @@ use mathlib.Core.Path.{◌≡◌, refl, ◌∙◌}
 use lib.ListN.{length, drop, length-set}
 use lib.Seq.{paste, paste-zero}
 use Rattle.spd_cache.specs.CacheLaws.{copy-next}
-use Rattle.policy.specs.Words.{rowWords}
+use Rattle.policy.specs.Words.{row_words}
 use borrow.Author.Rules.{rules}
 use Rattle.spd_cache.proofs.put_row.Statement.{statement}
 use Rattle.spd_cache.proofs.put_row.Tie as tie
 
 abbrev invariant-loop : tie.invariant-loop
-invariant-loop words₀ slot rows row to from i₀ words i = (i ≤ rowWords) × (words ≡ paste words₀ to (drop from rows) i) × (length words ≡ length words₀)
+invariant-loop words₀ slot rows row to from i₀ words i = (i ≤ row_words) × (words ≡ paste words₀ to (drop from rows) i) × (length words ≡ length words₀)
 
 abbrev decreases-loop : tie.decreases-loop
-decreases-loop words₀ slot rows row to from i₀ words i = rowWords - i
+decreases-loop words₀ slot rows row to from i₀ words i = row_words - i
 
 mul-to : tie.Need-overflow-mul-to invariant-loop decreases-loop
 mul-to c = search rules
@@ -23,7 +23,7 @@ mul-from : tie.Need-overflow-mul-from invariant-loop decreases-loop
 mul-from c = search rules
 
 loop-holds : tie.Need-loop-init invariant-loop decreases-loop
-loop-holds c = (search rules, paste-zero c.args.words.now (c.args.slot * rowWords) (drop (c.args.row * rowWords) c.args.rows.now), refl)
+loop-holds c = (search rules, paste-zero c.args.words.now (c.args.slot * row_words) (drop (c.args.row * row_words) c.args.rows.now), refl)
 
 add_words : tie.Need-overflow-add-words invariant-loop decreases-loop
 add_words c = search rules
@@ -55,7 +55,7 @@ loop-again c =
     let l = c.before.before.loop in (
       search rules,
       rw l.invariant.1
-          (copy-next s.args.words.now (s.args.slot * rowWords) s.args.rows.now (s.args.row * rowWords) l.i (omega (arith, s.requires)) (omega (arith, s.requires))),
+          (copy-next s.args.words.now (s.args.slot * row_words) s.args.rows.now (s.args.row * row_words) l.i (omega (arith, s.requires)) (omega (arith, s.requires))),
       simp length-set l.invariant.2,
     )
 
@@ -63,7 +63,7 @@ same_length : tie.Need-same-length invariant-loop decreases-loop
 same_length c = search rules
 
 returns : tie.Need-returns invariant-loop decreases-loop
-returns c = let e : c.before.loop.i ≡ rowWords = omega arith in c.before.loop.invariant.1 ∙ rw e
+returns c = let e : c.before.loop.i ≡ row_words = omega arith in c.before.loop.invariant.1 ∙ rw e
 
 pub put-row-spec : {M : Type 1} → statement M
 put-row-spec =

@@ -24,7 +24,7 @@ returns c =
     rw (
       c.is_found.ensures,
       c.before.place_found.ensures,
-      c.before.before.first-match.ensures,
+      c.before.before.first_match.ensures,
       c.before.before.before.direction-from.ensures,
       c.before.before.before.before.selectors-of.ensures,
     )

@@ -46,11 +46,11 @@ use Rattle.selectors.specs.Value.{combination}
 use Rattle.selectors.specs.declared.Direction.{Direction}
 use Rattle.selectors.specs.declared.Selectors.{Selectors}
 use Rattle.policy.specs.declared.Action.{Action}
-use Rattle.policy.specs.Policy.{orderedSearch}
+use Rattle.policy.specs.Policy.{ordered_search}
 use Rattle.policy.specs.declared.Row.{Row}
 use Rattle.policy.specs.Words.{row_of}
-use Rattle.selectors.specs.Words.{selectorsOf}
-use Rattle.abi.specs.Words.{directionFrom, actionKind, actionNumber}
+use Rattle.selectors.specs.Words.{selectors_in}
+use Rattle.abi.specs.Words.{direction_of_number, kind_of_action, number_of_action}
 use Rattle.selectors.specs.contracts.Direction as D
 use Rattle.selectors.proofs.Direction.TheLaws as D'
 use Rattle.selectors.specs.contracts.Selectors as P
@@ -151,14 +151,14 @@ module _ {M : Type 1} {𝓤 : Ura M} (𝓛 : Logic 𝓤) (mem' : Memory → SPro
   Words = (ShrRef (named 1) κ₁ Ten).own_val words (vptr b₁ o₁ ∷ [])
 
   abbrev answer : Action
-  answer = orderedSearch (directionFrom m) (map row_of ys) (combination (selectorsOf ws))
+  answer = ordered_search (direction_of_number m) (map row_of ys) (combination (selectors_in ws))
 
-  exits : (k r : ℕ) (u : Val) → r ≡ actionKind answer → k ≡ actionNumber answer
+  exits : (k r : ℕ) (u : Val) → r ≡ kind_of_action answer → k ≡ number_of_action answer
       → ent 𝓤 (⋆ 𝓛 (‵ (u64.own_val r (u ∷ [])) ∷ ‵ (fobs γ₂ (u64.coded.code k)) ∷ ‵ (fbor κ₂ (Body (mem u64) b₂ o₂ γ₂)) ∷ ‵ (flft κ₂ q₂) ∷ (‵ (flft κ q) ⊛ ‵ ftrue) ∷ (‵ (flft κ₁ q₁) ⊛ ‵ ftrue) ∷ ‵ Words ∷ ‵ Rows ∷ [])) (Post u)
   exits k r u e e' =
       qed 𝓛 (‵ (u64.own_val r (u ∷ [])) ∷ ‵ (fobs γ₂ (u64.coded.code k)) ∷ ‵ (fbor κ₂ (Body (mem u64) b₂ o₂ γ₂)) ∷ ‵ (flft κ₂ q₂) ∷ (‵ (flft κ q) ⊛ ‵ ftrue) ∷ (‵ (flft κ₁ q₁) ⊛ ‵ ftrue) ∷ ‵ Words ∷ ‵ Rows ∷ []) ∵
       suffices ! _ (ends_at 𝓛 f.ended stayed (f.clauses 𝓛 mem' run) (((κ, (κ₁, (κ₂, tt))), (q, (q₁, (q₂, tt))), tt, x, at), tt) u r (tt, (tt, (tt, (k, tt)))) (tt, (tt, (tt, (tt, tt))))) $
-      suffices ! _ (assoc∗ 𝓤 (on_exit 𝓛 f.ended stayed (κ, (κ₁, (κ₂, tt))) (q, (q₁, (q₂, tt))) at u r x (tt, (tt, (tt, (k, tt))))) (fact 𝓤 (r ≡ actionKind answer)) (fact 𝓤 (k ≡ actionNumber answer))) $ says ! e' $ says ! e $
+      suffices ! _ (assoc∗ 𝓤 (on_exit 𝓛 f.ended stayed (κ, (κ₁, (κ₂, tt))) (q, (q₁, (q₂, tt))) at u r x (tt, (tt, (tt, (k, tt))))) (fact 𝓤 (r ≡ kind_of_action answer)) (fact 𝓤 (k ≡ number_of_action answer))) $ says ! e' $ says ! e $
       -- the tokens
       move ! (4 ∷ []) $ split ! $ move ! (6 ∷ []) $ split ! $ nothing ! $ move ! (8 ∷ 0 ∷ []) $ join ! $ move ! (1 ∷ 0 ∷ []) $ join ! $ move ! (2 ∷ 0 ∷ []) $ join ! $ frame ! $ drop ! $ drop ! $
       -- [the result; obs; the borrow; the words; the slice]
@@ -172,8 +172,8 @@ module _ {M : Type 1} {𝓤 : Ura M} (𝓛 : Logic 𝓤) (mem' : Memory → SPro
   asked-dir : ent 𝓤 (sep 𝓤 (sem 𝓛 ftrue) (sem 𝓛 (owns (u64 ∷ []) (m, tt) (vint w64 m ∷ [], tt)))) ((Dir 𝓛 mem' run).pre to-dir)
   asked-dir = qed 𝓛 (‵ ftrue ∷ ‵ (owns (u64 ∷ []) (m, tt) (vint w64 m ∷ [], tt)) ∷ []) ∵ join ! $ frame ! $ done !
 
-  said-dir : (d : Direction) → ent 𝓤 (ensured 𝓛 dir.ended (dir.clauses 𝓛 mem' run) tt (m, tt) tt d) (fact 𝓤 (d ≡ directionFrom m))
-  said-dir d = ex_e 𝓤 _ (λ ws. snd∗ 𝓤 (sem 𝓛 (lasts dir.ended tt (m, tt) ws)) (fact 𝓤 (d ≡ directionFrom m)))
+  said-dir : (d : Direction) → ent 𝓤 (ensured 𝓛 dir.ended (dir.clauses 𝓛 mem' run) tt (m, tt) tt d) (fact 𝓤 (d ≡ direction_of_number m))
+  said-dir d = ex_e 𝓤 _ (λ ws. snd∗ 𝓤 (sem 𝓛 (lasts dir.ended tt (m, tt) ws)) (fact 𝓤 (d ≡ direction_of_number m)))
 
   abbrev to-sel : (Sel 𝓛 mem' run).Ghost
   to-sel = (((κ₁, tt), (q₁, tt), tt, (words, tt), (vptr b₁ o₁ ∷ [], tt)), tt)
@@ -181,8 +181,8 @@ module _ {M : Type 1} {𝓤 : Ura M} (𝓛 : Logic 𝓤) (mem' : Memory → SPro
   asked-sel : ent 𝓤 (on_entry 𝓛 sel.signature (κ₁, tt) (q₁, tt) (words, tt) (vptr b₁ o₁ ∷ [], tt)) ((Sel 𝓛 mem' run).pre to-sel)
   asked-sel = qed 𝓛 ((‵ (flft κ₁ q₁) ⊛ ‵ ftrue) ∷ ‵ (owns (ShrRef (named 0) κ₁ Ten ∷ []) (words, tt) (vptr b₁ o₁ ∷ [], tt)) ∷ []) ∵ join ! $ frame ! $ done !
 
-  said-sel : (s : Selectors) → ent 𝓤 (ensured 𝓛 sel.ended (sel.clauses 𝓛 mem' run) (κ₁, tt) (words, tt) tt s) (fact 𝓤 (s ≡ selectorsOf ws))
-  said-sel s = ex_e 𝓤 _ (λ us. snd∗ 𝓤 (sem 𝓛 (lasts sel.ended (κ₁, tt) (words, tt) us)) (fact 𝓤 (s ≡ selectorsOf ws)))
+  said-sel : (s : Selectors) → ent 𝓤 (ensured 𝓛 sel.ended (sel.clauses 𝓛 mem' run) (κ₁, tt) (words, tt) tt s) (fact 𝓤 (s ≡ selectors_in ws))
+  said-sel s = ex_e 𝓤 _ (λ us. snd∗ 𝓤 (sem 𝓛 (lasts sel.ended (κ₁, tt) (words, tt) us)) (fact 𝓤 (s ≡ selectors_in ws)))
 
   module _ (d : Direction) (u : Val) (s : Selectors) (w : Val) where
     abbrev to-find : (Find 𝓛 mem' run).Ghost
@@ -191,11 +191,11 @@ module _ {M : Type 1} {𝓤 : Ura M} (𝓛 : Logic 𝓤) (mem' : Memory → SPro
     asked-find : ent 𝓤 (on_entry 𝓛 find.signature (κ, tt) (q, tt) (rows, (d, (s, tt))) (sv ∷ [], (u ∷ [], (w ∷ [], tt)))) ((Find 𝓛 mem' run).pre to-find)
     asked-find = qed 𝓛 ((‵ (flft κ q) ⊛ ‵ ftrue) ∷ ‵ (owns (ShrSlice (named 0) κ R ∷ D.the_row ∷ P.the_row ∷ []) (rows, (d, (s, tt))) (sv ∷ [], (u ∷ [], (w ∷ [], tt)))) ∷ []) ∵ join ! $ frame ! $ done !
 
-    said-find : (a : Action) → ent 𝓤 (ensured 𝓛 find.ended (find.clauses 𝓛 mem' run) (κ, tt) (rows, (d, (s, tt))) tt a) (fact 𝓤 (a ≡ orderedSearch d (map row_of ys) (combination s)))
-    said-find a = ex_e 𝓤 _ (λ us. snd∗ 𝓤 (sem 𝓛 (lasts find.ended (κ, tt) (rows, (d, (s, tt))) us)) (fact 𝓤 (a ≡ orderedSearch d (map row_of ys) (combination s))))
+    said-find : (a : Action) → ent 𝓤 (ensured 𝓛 find.ended (find.clauses 𝓛 mem' run) (κ, tt) (rows, (d, (s, tt))) tt a) (fact 𝓤 (a ≡ ordered_search d (map row_of ys) (combination s)))
+    said-find a = ex_e 𝓤 _ (λ us. snd∗ 𝓤 (sem 𝓛 (lasts find.ended (κ, tt) (rows, (d, (s, tt))) us)) (fact 𝓤 (a ≡ ordered_search d (map row_of ys) (combination s))))
 
-    found : (a : Action) → a ≡ orderedSearch d (map row_of ys) (combination s) → d ≡ directionFrom m → s ≡ selectorsOf ws → a ≡ answer
-    found a e e₁ e₂ = e ∙ ap (λ (d : Direction). orderedSearch d (map row_of ys) (combination s)) e₁ ∙ ap (λ (s : Selectors). orderedSearch (directionFrom m) (map row_of ys) (combination s)) e₂
+    found : (a : Action) → a ≡ ordered_search d (map row_of ys) (combination s) → d ≡ direction_of_number m → s ≡ selectors_in ws → a ≡ answer
+    found a e e₁ e₂ = e ∙ ap (λ (d : Direction). ordered_search d (map row_of ys) (combination s)) e₁ ∙ ap (λ (s : Selectors). ordered_search (direction_of_number m) (map row_of ys) (combination s)) e₂
 
   module _ (a : Action) (y : Val) where
     abbrev to-num : (Num 𝓛 mem' run).Ghost
@@ -204,8 +204,8 @@ module _ {M : Type 1} {𝓤 : Ura M} (𝓛 : Logic 𝓤) (mem' : Memory → SPro
     asked-num : ent 𝓤 (sep 𝓤 (sem 𝓛 ftrue) (sem 𝓛 (owns (B.the_row ∷ []) (a, tt) (y ∷ [], tt)))) ((Num 𝓛 mem' run).pre to-num)
     asked-num = qed 𝓛 (‵ ftrue ∷ ‵ (owns (B.the_row ∷ []) (a, tt) (y ∷ [], tt)) ∷ []) ∵ join ! $ frame ! $ done !
 
-    said-num : (k : ℕ) → ent 𝓤 (ensured 𝓛 num.ended (num.clauses 𝓛 mem' run) tt (a, tt) tt k) (fact 𝓤 (k ≡ actionNumber a))
-    said-num k = ex_e 𝓤 _ (λ us. snd∗ 𝓤 (sem 𝓛 (lasts num.ended tt (a, tt) us)) (fact 𝓤 (k ≡ actionNumber a)))
+    said-num : (k : ℕ) → ent 𝓤 (ensured 𝓛 num.ended (num.clauses 𝓛 mem' run) tt (a, tt) tt k) (fact 𝓤 (k ≡ number_of_action a))
+    said-num k = ex_e 𝓤 _ (λ us. snd∗ 𝓤 (sem 𝓛 (lasts num.ended tt (a, tt) us)) (fact 𝓤 (k ≡ number_of_action a)))
 
     abbrev to-kind : (Kind 𝓛 mem' run).Ghost
     to-kind = ((tt, tt, tt, (a, tt), (y ∷ [], tt)), tt)
@@ -213,8 +213,8 @@ module _ {M : Type 1} {𝓤 : Ura M} (𝓛 : Logic 𝓤) (mem' : Memory → SPro
     asked-kind : ent 𝓤 (sep 𝓤 (sem 𝓛 ftrue) (sem 𝓛 (owns (B.the_row ∷ []) (a, tt) (y ∷ [], tt)))) ((Kind 𝓛 mem' run).pre to-kind)
     asked-kind = qed 𝓛 (‵ ftrue ∷ ‵ (owns (B.the_row ∷ []) (a, tt) (y ∷ [], tt)) ∷ []) ∵ join ! $ frame ! $ done !
 
-    said-kind : (r : ℕ) → ent 𝓤 (ensured 𝓛 kind.ended (kind.clauses 𝓛 mem' run) tt (a, tt) tt r) (fact 𝓤 (r ≡ actionKind a))
-    said-kind r = ex_e 𝓤 _ (λ us. snd∗ 𝓤 (sem 𝓛 (lasts kind.ended tt (a, tt) us)) (fact 𝓤 (r ≡ actionKind a)))
+    said-kind : (r : ℕ) → ent 𝓤 (ensured 𝓛 kind.ended (kind.clauses 𝓛 mem' run) tt (a, tt) tt r) (fact 𝓤 (r ≡ kind_of_action a))
+    said-kind r = ex_e 𝓤 _ (λ us. snd∗ 𝓤 (sem 𝓛 (lasts kind.ended tt (a, tt) us)) (fact 𝓤 (r ≡ kind_of_action a)))
 
   module _ (C : Calls 𝓤 H) (Λ : Loops 𝓤 H) (fm : FmC 𝓤 H 𝓛.laws C) (known : Known 𝓛 mem' run C) where
     walk : ent 𝓤 (on_entry 𝓛 f.signature (κ, (κ₁, (κ₂, tt))) (q, (q₁, (q₂, tt))) x at) (WpFn 𝓤 H C Λ code.function (sv ∷ vint w64 m ∷ vptr b₁ o₁ ∷ vptr b₂ o₂ ∷ []) Post)
@@ -235,14 +235,14 @@ module _ {M : Type 1} {𝓤 : Ura M} (𝓛 : Logic 𝓤) (mem' : Memory → SPro
         nothing ! $ owned ! u64 (Is u64) (uint_Makes 𝓛 w64) m _ (refl, gm) $ fjoin ! $ nothing ! $ use2 𝓛 (raw ((Dir 𝓛 mem' run).pre to-dir)) asked-dir $
         calls_at ! fm (Dir 𝓛 mem' run) known.dirs to-dir (and_then ! (load ! (from ! (stop !)) (look ! 13 refl)) (no_more !)) (λ u.
         use1 𝓛 (later (some (λ (d : Direction). (‵ ftrue ⊛ ‵ ((D.the_row).own_val d (u ∷ []))) ⊛ raw (ensured 𝓛 dir.ended (dir.clauses 𝓛 mem' run) tt (m, tt) tt d)))) (id⊢ 𝓤 _) $ await ! tt $ pick ! (λ d.
-        split ! $ move ! (1 ∷ []) $ use1 𝓛 (raw (fact 𝓤 (d ≡ directionFrom m))) (said-dir d) $ heard ! (d ≡ directionFrom m) (λ e₁. split ! $ drop ! $
+        split ! $ move ! (1 ∷ []) $ use1 𝓛 (raw (fact 𝓤 (d ≡ direction_of_number m))) (said-dir d) $ heard ! (d ≡ direction_of_number m) (λ e₁. split ! $ drop ! $
         peeks ! D.the_row (Is D.the_row) (shows 𝓛 D.the_row) d (u ∷ []) (λ is-d.
         land ! (from ! (stop !)) (init ! 5 refl ((EL.lawful D.the_type D'.the_laws 𝓛 tt).typed d _ is-d).0) $ drop ! $
         -- `selectors_of`
         nothing ! $ move ! (19 ∷ 0 ∷ []) $ fjoin ! $ nothing ! $ move ! (22 ∷ 0 ∷ []) $ join ! $ use2 𝓛 (raw ((Sel 𝓛 mem' run).pre to-sel)) asked-sel $
         calls_at ! fm (Sel 𝓛 mem' run) known.sels to-sel (and_then ! (load ! (from ! (stop !)) (look ! 11 refl)) (no_more !)) (λ w.
         use1 𝓛 (later (some (λ (s : Selectors). ((‵ (flft κ₁ q₁) ⊛ ‵ ftrue) ⊛ ‵ ((P.the_row).own_val s (w ∷ []))) ⊛ raw (ensured 𝓛 sel.ended (sel.clauses 𝓛 mem' run) (κ₁, tt) (words, tt) tt s)))) (id⊢ 𝓤 _) $ await ! tt $ pick ! (λ s.
-        split ! $ move ! (1 ∷ []) $ use1 𝓛 (raw (fact 𝓤 (s ≡ selectorsOf ws))) (said-sel s) $ heard ! (s ≡ selectorsOf ws) (λ e₂. split ! $ move ! (1 ∷ []) $
+        split ! $ move ! (1 ∷ []) $ use1 𝓛 (raw (fact 𝓤 (s ≡ selectors_in ws))) (said-sel s) $ heard ! (s ≡ selectors_in ws) (λ e₂. split ! $ move ! (1 ∷ []) $
         peeks ! P.the_row (Is P.the_row) (shows 𝓛 P.the_row) s (w ∷ []) (λ is-s.
         land ! (from ! (stop !)) (init ! 4 refl ((LL.lawful P.the_type P'.the_laws 𝓛).typed s _ is-s).0) $ drop ! $
         -- [κ₁'s token; _8; …; _0; …; the slice; κ's token; obs; the borrow; κ₂'s token; the words; the slice]: `search`
@@ -250,14 +250,14 @@ module _ {M : Type 1} {𝓤 : Ura M} (𝓛 : Logic 𝓤) (mem' : Memory → SPro
         move ! (20 ∷ 0 ∷ []) $ fjoin ! $ nothing ! $ move ! (21 ∷ 0 ∷ []) $ join ! $ use2 𝓛 (raw ((Find 𝓛 mem' run).pre (to-find d u s w))) (asked-find d u s w) $
         calls_at ! fm (Find 𝓛 mem' run) known.finds (to-find d u s w) (and_then ! (load ! (from ! (stop !)) (look ! 16 refl)) (and_then ! (load ! (from ! (stop !)) (look ! 6 refl)) (and_then ! (load ! (from ! (stop !)) (look ! 4 refl)) (no_more !)))) (λ y.
         use1 𝓛 (later (some (λ (a : Action). ((‵ (flft κ q) ⊛ ‵ ftrue) ⊛ ‵ ((B.the_row).own_val a (y ∷ []))) ⊛ raw (ensured 𝓛 find.ended (find.clauses 𝓛 mem' run) (κ, tt) (rows, (d, (s, tt))) tt a)))) (id⊢ 𝓤 _) $ await ! tt $ pick ! (λ a.
-        split ! $ move ! (1 ∷ []) $ use1 𝓛 (raw (fact 𝓤 (a ≡ orderedSearch d (map row_of ys) (combination s)))) (said-find d u s w a) $ heard ! (a ≡ orderedSearch d (map row_of ys) (combination s)) (λ e₃. split ! $ move ! (1 ∷ []) $
+        split ! $ move ! (1 ∷ []) $ use1 𝓛 (raw (fact 𝓤 (a ≡ ordered_search d (map row_of ys) (combination s)))) (said-find d u s w a) $ heard ! (a ≡ ordered_search d (map row_of ys) (combination s)) (λ e₃. split ! $ move ! (1 ∷ []) $
         peeks ! B.the_row (Is B.the_row) (shows 𝓛 B.the_row) a (y ∷ []) (λ is-a.
         land ! (from ! (stop !)) (init ! 9 refl ((EL.lawful B.the_type B'.the_laws 𝓛 tt).typed a _ is-a).0) $ drop ! $
         -- [κ's token; κ₁'s; _8; …; _0; …; obs; the borrow; κ₂'s token; the words; the slice]: `action_number`
         nothing ! $ owned ! B.the_row (Is B.the_row) (EL.makes B.the_type B'.the_plain 𝓛) a _ is-a $ fjoin ! $ nothing ! $ use2 𝓛 (raw ((Num 𝓛 mem' run).pre (to-num a y))) (asked-num a y) $
         calls_at ! fm (Num 𝓛 mem' run) known.nums (to-num a y) (and_then ! (load ! (from ! (stop !)) (look ! 9 refl)) (no_more !)) (λ z.
         use1 𝓛 (later (some (λ (k : ℕ). (‵ ftrue ⊛ ‵ (u64.own_val k (z ∷ []))) ⊛ raw (ensured 𝓛 num.ended (num.clauses 𝓛 mem' run) tt (a, tt) tt k)))) (id⊢ 𝓤 _) $ await ! tt $ pick ! (λ k.
-        split ! $ move ! (1 ∷ []) $ use1 𝓛 (raw (fact 𝓤 (k ≡ actionNumber a))) (said-num a y k) $ heard ! (k ≡ actionNumber a) (λ e₄. split ! $ drop ! $
+        split ! $ move ! (1 ∷ []) $ use1 𝓛 (raw (fact 𝓤 (k ≡ number_of_action a))) (said-num a y k) $ heard ! (k ≡ number_of_action a) (λ e₄. split ! $ drop ! $
         peeks ! u64 (Is u64) (shows 𝓛 u64) k (z ∷ []) (λ is-k.
         land ! (from ! (stop !)) (init ! 3 refl ((uint_Lawful 𝓛 w64).typed k _ is-k).0) $ rewrite ! 3 (λ (v : Val). ‵ (fat full_share (ty_int w64) l₈ 0 v)) (ap only (uint_Tells w64 k _ is-k)) refl $ drop ! $
         -- the borrow is opened, the number stored, and the borrow closed
@@ -269,14 +269,14 @@ module _ {M : Type 1} {𝓤 : Ura M} (𝓛 : Logic 𝓤) (mem' : Memory → SPro
         nothing ! $ owned ! B.the_row (Is B.the_row) (EL.makes B.the_type B'.the_plain 𝓛) a _ is-a $ fjoin ! $ nothing ! $ use2 𝓛 (raw ((Kind 𝓛 mem' run).pre (to-kind a y))) (asked-kind a y) $
         calls_at ! fm (Kind 𝓛 mem' run) known.kinds (to-kind a y) (and_then ! (load ! (from ! (stop !)) (look ! 12 refl)) (no_more !)) (λ t.
         use1 𝓛 (later (some (λ (r : ℕ). (‵ ftrue ⊛ ‵ (u64.own_val r (t ∷ []))) ⊛ raw (ensured 𝓛 kind.ended (kind.clauses 𝓛 mem' run) tt (a, tt) tt r)))) (id⊢ 𝓤 _) $ await ! tt $ pick ! (λ r.
-        split ! $ move ! (1 ∷ []) $ use1 𝓛 (raw (fact 𝓤 (r ≡ actionKind a))) (said-kind a y r) $ heard ! (r ≡ actionKind a) (λ e₅. split ! $ drop ! $
+        split ! $ move ! (1 ∷ []) $ use1 𝓛 (raw (fact 𝓤 (r ≡ kind_of_action a))) (said-kind a y r) $ heard ! (r ≡ kind_of_action a) (λ e₅. split ! $ drop ! $
         peeks ! u64 (Is u64) (shows 𝓛 u64) r (t ∷ []) (λ is-r.
         land ! (from ! (stop !)) (init ! 22 refl ((uint_Lawful 𝓛 w64).typed r _ is-r).0) $
         -- [the result; obs; the borrow; κ₂'s token; κ's; κ₁'s; _8; …; _0; …; the words; the slice]
         returns ! (look ! 22 refl) $ forget ! 6 refl $ forget ! 8 refl $ forget ! 10 refl $ forget ! 12 refl $ forget ! 14 refl $ forget ! 16 refl $ forget ! 18 refl $ forget ! 20 refl $ forget ! 22 refl $
         move ! (22 ∷ 23 ∷ []) $ free1 ! $ move ! (20 ∷ 21 ∷ []) $ free1 ! $ move ! (18 ∷ 19 ∷ []) $ free1 ! $ move ! (16 ∷ 17 ∷ []) $ free1 ! $ move ! (14 ∷ 15 ∷ []) $ free1 ! $ move ! (12 ∷ 13 ∷ []) $ free1 ! $
         move ! (10 ∷ 11 ∷ []) $ free1 ! $ move ! (8 ∷ 9 ∷ []) $ free1 ! $ move ! (6 ∷ 7 ∷ []) $ free1 ! $ free0 ! $
-        by ! (exits k r t (e₅ ∙ ap actionKind (found d u s w a e₃ e₁ e₂)) (e₄ ∙ ap actionNumber (found d u s w a e₃ e₁ e₂))))))))))))))))))))))))))))))))))
+        by ! (exits k r t (e₅ ∙ ap kind_of_action (found d u s w a e₃ e₁ e₂)) (e₄ ∙ ap number_of_action (found d u s w a e₃ e₁ e₂))))))))))))))))))))))))))))))))))
 
 module _ {M : Type 1} {𝓤 : Ura M} (𝓛 : Logic 𝓤) (mem' : Memory → SProp 𝓤) (run : Routine → Fun 𝓤) where
   open 𝓛 use {H}

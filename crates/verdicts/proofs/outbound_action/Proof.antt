@@ -2,7 +2,7 @@
 use mathlib.Core.Path.{sym, ap, ◌∙◌}
 use Rattle.selectors.specs.Value.{combination}
 use Rattle.sad.specs.Pairs.{pairs}
-use Rattle.verdicts.specs.Calls.{outboundAction}
+use Rattle.verdicts.specs.Calls.{outbound_action}
 use borrow.Author.Rules.{rules}
 use Rattle.verdicts.proofs.outbound_action.Statement.{statement}
 use Rattle.verdicts.proofs.outbound_action.Tie as tie
@@ -28,7 +28,7 @@ returns-2 c = search rules
 returns-3 : tie.Need-returns-3
 returns-3 c =
     let a = c.before.before.before.before.args in
-    c.protect.ensures ∙ ap (outboundAction (pairs a.table.now) (combination a.selectors)) (sym c.before.before.action.given.1)
+    c.protect.ensures ∙ ap (outbound_action (pairs a.table.now) (combination a.selectors)) (sym c.before.before.action.given.1)
 
 pub outbound-action-spec : {M : Type 1} → statement M
 outbound-action-spec =

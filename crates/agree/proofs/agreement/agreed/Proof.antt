@@ -9,7 +9,7 @@ use borrow.Author.Tests.{not-false}
 use borrow.Author.Count.{below_none, below_more}
 use borrow.Author.Rules.{rules}
 use Rattle.agree.specs.Sides.{sides, SameSides}
-use Rattle.agree.specs.SidesLaws.{same_none, same-lone, sides-agree}
+use Rattle.agree.specs.SidesLaws.{same_none, same_lone, sides_agree}
 use Rattle.agree.proofs.agreement.agreed.Statement.{statement}
 use Rattle.agree.proofs.agreement.agreed.Tie as tie
 
@@ -49,11 +49,11 @@ loop-again c =
     let t = c.before.lone.ensures in (
       search rules,
       below_more _ _ l.loop.invariant.1
-          (⊎_elim (λ w. same-lone _ _ _ c.before.before.before.loop-test.true _ t (w.1.ensures.1 (not-false _ w.3.left))) (λ w. same_none _ _ _ c.before.before.before.loop-test.true _ t (omega (arith, w.0.left))) c.if1.branch),
+          (⊎_elim (λ w. same_lone _ _ _ c.before.before.before.loop-test.true _ t (w.1.ensures.1 (not-false _ w.3.left))) (λ w. same_none _ _ _ c.before.before.before.loop-test.true _ t (omega (arith, w.0.left))) c.if1.branch),
     )
 
 returns-2 : tie.Need-returns-2 invariant-loop decreases-loop
-returns-2 c = let e : c.before.loop.row ≡ c.before.before.before.before.args.count = omega arith in λ _. sides-agree _ _ (rw e at c.before.loop.invariant.1)
+returns-2 c = let e : c.before.loop.row ≡ c.before.before.before.before.args.count = omega arith in λ _. sides_agree _ _ (rw e at c.before.loop.invariant.1)
 
 pub agreed-spec : {M : Type 1} → statement M
 agreed-spec =

@@ -7,7 +7,7 @@ use mathlib.Core.Logic.{inl, inr, ⊎_elim}
 use lib.ListN.{length, length-set}
 use borrow.Author.Rules.{rules}
 use Rattle.agree.specs.Sides.{Before}
-use Rattle.agree.specs.SidesLaws.{before-none, before-next}
+use Rattle.agree.specs.SidesLaws.{before_none, before-next}
 use Rattle.agree.proofs.agreement.before.Statement.{statement}
 use Rattle.agree.proofs.agreement.before.Tie as tie
 
@@ -18,7 +18,7 @@ abbrev decreases-loop : tie.decreases-loop
 decreases-loop first second entries asked k bounds list₀ field count₀ j₀ list count j = k - j
 
 loop-holds : tie.Need-loop-init invariant-loop decreases-loop
-loop-holds c = (search rules, (search rules, (refl, before-none _ _ _ _)))
+loop-holds c = (search rules, (search rules, (refl, before_none _ _ _ _)))
 
 mul-code : tie.Need-overflow-mul-code invariant-loop decreases-loop
 mul-code c = search rules

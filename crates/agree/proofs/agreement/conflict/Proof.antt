@@ -4,7 +4,7 @@ use Prim.Native.Nat.{suc, ◌≤◌, ◌-◌}
 use native.Mathlib.Omega.{arith}
 use borrow.Author.Rules.{rules}
 use Rattle.agree.specs.Sides.{sides, Peace}
-use Rattle.agree.specs.SidesLaws.{peace-none, peace-more, peace-ended}
+use Rattle.agree.specs.SidesLaws.{peace_none, peace_more, peace_ended}
 use Rattle.agree.proofs.agreement.conflict.Statement.{statement}
 use Rattle.agree.proofs.agreement.conflict.Tie as tie
 
@@ -18,7 +18,7 @@ entry-action-requires : tie.Need-entry-action-requires invariant-loop decreases-
 entry-action-requires c κs = search rules
 
 loop-holds : tie.Need-loop-init invariant-loop decreases-loop
-loop-holds c = (search rules, peace-none _ _ _ _ _)
+loop-holds c = (search rules, peace_none _ _ _ _ _)
 
 step-requires : tie.Need-step-requires invariant-loop decreases-loop
 step-requires c κs = search rules
@@ -30,7 +30,7 @@ add-result : tie.Need-overflow-add-result invariant-loop decreases-loop
 add-result c = search rules
 
 returns-2 : tie.Need-returns-2 invariant-loop decreases-loop
-returns-2 c = let l = c.before.before.before.before.loop in (omega arith, peace-ended _ _ _ _ _ _ l.invariant.1 _ (c.before.before.step.ensures.1.1 c.if2.true))
+returns-2 c = let l = c.before.before.before.before.loop in (omega arith, peace_ended _ _ _ _ _ _ l.invariant.1 _ (c.before.before.step.ensures.1.1 c.if2.true))
 
 add-k : tie.Need-overflow-add-k invariant-loop decreases-loop
 add-k c = search rules
@@ -39,7 +39,7 @@ loop-less : tie.Need-loop-smaller invariant-loop decreases-loop
 loop-less c = search rules
 
 loop-again : tie.Need-loop-preserved invariant-loop decreases-loop
-loop-again c = let l = c.before.before.before.before.loop in (omega arith, peace-more _ _ _ _ _ _ l.invariant.1 (c.before.before.step.ensures.1.0 (omega (arith, c.before.before.step.ensures.0, c.before.if1.false, c.if2.false))))
+loop-again c = let l = c.before.before.before.before.loop in (omega arith, peace_more _ _ _ _ _ _ l.invariant.1 (c.before.before.step.ensures.1.0 (omega (arith, c.before.before.step.ensures.0, c.before.if1.false, c.if2.false))))
 
 returns-3 : tie.Need-returns-3 invariant-loop decreases-loop
 returns-3 c = c.before.loop.invariant

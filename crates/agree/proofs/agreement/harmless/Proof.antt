@@ -1,7 +1,7 @@
 -- `agree::agreement::harmless` meets its contract. No conflict is found, or entries before hide the row, or none is seen. Assumes nothing.
 use native.Mathlib.Omega.{arith}
 use borrow.Author.Rules.{rules}
-use Rattle.agree.specs.SidesLaws.{peace-end, peace-then, hidden-peace, harmless-own}
+use Rattle.agree.specs.SidesLaws.{peace_end, peace_then, hidden_peace, harmless_own}
 use Rattle.agree.proofs.agreement.harmless.Statement.{statement}
 use Rattle.agree.proofs.agreement.harmless.Tie as tie
 
@@ -15,13 +15,13 @@ conflict-requires : tie.Need-conflict-requires
 conflict-requires c κs = search rules
 
 returns : tie.Need-returns
-returns c = (search rules, λ _. harmless-own _ _ _ _ _ c.before.before.before.before.entry-common.ensures _ _ (omega arith) (peace-end _ _ _ _ _ _ c.before.conflict.ensures.1 c.if1.true))
+returns c = (search rules, λ _. harmless_own _ _ _ _ _ c.before.before.before.before.entry-common.ensures _ _ (omega arith) (peace_end _ _ _ _ _ _ c.before.conflict.ensures.1 c.if1.true))
 
 hidden-requires : tie.Need-hidden-requires
 hidden-requires c κs = search rules
 
 returns-2 : tie.Need-returns-2
-returns-2 c = (c.before.hidden.ensures.0, λ e. harmless-own _ _ _ _ _ c.before.before.before.before.before.before.entry-common.ensures _ _ (omega arith) (hidden-peace _ _ _ _ (c.before.hidden.ensures.1 e) _))
+returns-2 c = (c.before.hidden.ensures.0, λ e. harmless_own _ _ _ _ _ c.before.before.before.before.before.before.entry-common.ensures _ _ (omega arith) (hidden_peace _ _ _ _ (c.before.hidden.ensures.1 e) _))
 
 conflicts-hidden-requires : tie.Need-conflicts-hidden-requires
 conflicts-hidden-requires c κs = search rules
@@ -29,7 +29,7 @@ conflicts-hidden-requires c κs = search rules
 returns-3 : tie.Need-returns-3
 returns-3 c =
     let k = c.before.before.before.before.conflict.ensures in
-    (omega (arith, c.conflicts-hidden.ensures.0, c.before.before.hidden.ensures.0), λ e. harmless-own _ _ _ _ _ c.before.before.before.before.before.before.before.entry-common.ensures _ _ (omega arith) (peace-then _ _ _ _ _ _ k.1 _ (c.conflicts-hidden.ensures.1 e)))
+    (omega (arith, c.conflicts-hidden.ensures.0, c.before.before.hidden.ensures.0), λ e. harmless_own _ _ _ _ _ c.before.before.before.before.before.before.before.entry-common.ensures _ _ (omega arith) (peace_then _ _ _ _ _ _ k.1 _ (c.conflicts-hidden.ensures.1 e)))
 
 pub harmless-spec : {M : Type 1} → statement M
 harmless-spec =

@@ -3,7 +3,7 @@ use native.Mathlib.Omega.{arith}
 use mathlib.Core.Path.{sym, ◌∙◌}
 use borrow.Author.Tests.{not-true, not-false}
 use borrow.Author.Rules.{rules}
-use Rattle.agree.specs.SidesLaws.{action-same, passed-off, passed-same, passed_apart, ended}
+use Rattle.agree.specs.SidesLaws.{action_same, passed_off, passed_same, passed_apart, ended}
 use Rattle.agree.proofs.agreement.step.Statement.{statement}
 use Rattle.agree.proofs.agreement.step.Tie as tie
 
@@ -11,7 +11,7 @@ entry-on-requires : tie.Need-entry-on-requires
 entry-on-requires c κs = search rules
 
 returns : tie.Need-returns
-returns c = (search rules, (λ _. passed-off _ _ _ _ _ (sym c.before.entry-on.ensures ∙ not-true _ c.if1.true), λ e. absurd (omega (arith, e))))
+returns c = (search rules, (λ _. passed_off _ _ _ _ _ (sym c.before.entry-on.ensures ∙ not-true _ c.if1.true), λ e. absurd (omega (arith, e))))
 
 entry-action-requires : tie.Need-entry-action-requires
 entry-action-requires c κs = search rules
@@ -26,12 +26,12 @@ returns-2 c =
       (
         λ e. absurd (omega (arith, e)),
         λ _. ended _ _ _ _ _ (sym s.before.entry-on.ensures ∙ not-false _ s.if1.false) (c.before.entry-covers.ensures c.if3.true)
-            (action-same _ _ _ _ _ _ _ _ _ c.before.before.before.entry-action.ensures c.before.before.if2.true s.before.before.before.before.before.requires.1),
+            (action_same _ _ _ _ _ _ _ _ _ c.before.before.before.entry-action.ensures c.before.before.if2.true s.before.before.before.before.before.requires.1),
       ),
     )
 
 returns-3 : tie.Need-returns-3
-returns-3 c = (search rules, (λ _. passed-same _ _ _ _ _ (action-same _ _ _ _ _ _ _ _ _ c.before.before.before.entry-action.ensures c.before.before.if2.true c.before.before.before.before.before.before.before.before.before.requires.1), λ e. absurd (omega (arith, e))))
+returns-3 c = (search rules, (λ _. passed_same _ _ _ _ _ (action_same _ _ _ _ _ _ _ _ _ c.before.before.before.entry-action.ensures c.before.before.if2.true c.before.before.before.before.before.before.before.before.before.requires.1), λ e. absurd (omega (arith, e))))
 
 entry-apart-requires : tie.Need-entry-apart-requires
 entry-apart-requires c κs = search rules

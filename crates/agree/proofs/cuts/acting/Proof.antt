@@ -5,7 +5,7 @@ use native.Mathlib.Omega.{arith}
 use mathlib.Core.Path.{◌≡◌, sym, ◌∙◌}
 use mathlib.Core.Logic.{inl, inr, ⊎_elim}
 use lib.ListN.{take}
-use Rattle.agree.specs.Sides.{doesAct, Takes}
+use Rattle.agree.specs.Sides.{does_act, Takes}
 use Rattle.agree.specs.EntriesLaws.{take_more}
 use Rattle.agree.specs.TakesLaws.{takes_none, takes-next}
 use borrow.Author.Rules.{rules}
@@ -14,7 +14,7 @@ use Rattle.agree.proofs.cuts.acting.Tie as tie
 
 abbrev invariant-loop : tie.invariant-loop
 invariant-loop rows list total actors₀ count₀ i₀ actors count i =
-    (i ≤ total) × ((count ≤ i) × Takes (λ r. doesAct rows r) (take i list) actors count)
+    (i ≤ total) × ((count ≤ i) × Takes (λ r. does_act rows r) (take i list) actors count)
 
 abbrev decreases-loop : tie.decreases-loop
 decreases-loop rows list total actors₀ count₀ i₀ actors count i = total - i

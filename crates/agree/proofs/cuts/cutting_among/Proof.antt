@@ -4,7 +4,7 @@ use Prim.Native.Nat.{◌≤◌, ◌-◌}
 use native.Mathlib.Omega.{arith}
 use mathlib.Core.Path.{◌≡◌}
 use mathlib.Core.Logic.{inl, inr, ⊎_elim}
-use Rattle.agree.specs.CuttingLaws.{Chosen, Idle, chosen_none, chosen-next, cutting-of}
+use Rattle.agree.specs.CuttingLaws.{Chosen, Idle, chosen_none, chosen-next, cutting_of}
 use borrow.Author.Rules.{rules}
 use Rattle.agree.proofs.cuts.cutting_among.Statement.{statement}
 use Rattle.agree.proofs.cuts.cutting_among.Tie as tie
@@ -59,7 +59,7 @@ returns c =
     let l = c.before in
     let s = l.before.before in
     let e : l.loop.i ≡ s.args.total = omega arith in
-    cutting-of _ _ _ _ _ _ _ _ s.requires.1.0 (omega (arith, s.requires.0)) s.requires.1.1 (rw e at l.loop.invariant.1.1)
+    cutting_of _ _ _ _ _ _ _ _ s.requires.1.0 (omega (arith, s.requires.0)) s.requires.1.1 (rw e at l.loop.invariant.1.1)
 
 pub cutting-among-spec : {M : Type 1} → statement M
 cutting-among-spec =

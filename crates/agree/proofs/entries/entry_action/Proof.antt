@@ -1,7 +1,7 @@
 -- `agree::entries::entry_action` meets its contract. By whether it is the end row. Assumes nothing.
 use mathlib.Core.Path.{sym, ◌∙◌}
 use borrow.Author.Rules.{rules}
-use Rattle.agree.specs.SidesLaws.{action-entry, action-end}
+use Rattle.agree.specs.SidesLaws.{action_entry, action_end}
 use Rattle.agree.proofs.entries.entry_action.Statement.{statement}
 use Rattle.agree.proofs.entries.entry_action.Tie as tie
 
@@ -15,10 +15,10 @@ code-action-requires : tie.Need-code-action-requires
 code-action-requires c κs = search rules
 
 returns : tie.Need-returns
-returns c = c.code-action.ensures ∙ sym (action-entry _ _ c.before.before.if1.true)
+returns c = c.code-action.ensures ∙ sym (action_entry _ _ c.before.before.if1.true)
 
 returns-2 : tie.Need-returns-2
-returns-2 c = sym (action-end _ _ c.if1.false)
+returns-2 c = sym (action_end _ _ c.if1.false)
 
 pub entry-action-spec : {M : Type 1} → statement M
 entry-action-spec =

@@ -1,6 +1,6 @@
 -- `agree::entries::entry_covers` meets its contract. By whether it is the end row. Assumes nothing.
 use borrow.Author.Rules.{rules}
-use Rattle.agree.specs.SidesLaws.{covers-entry, covers-end}
+use Rattle.agree.specs.SidesLaws.{covers_entry, covers_end}
 use Rattle.agree.proofs.entries.entry_covers.Statement.{statement}
 use Rattle.agree.proofs.entries.entry_covers.Tie as tie
 
@@ -14,10 +14,10 @@ covers-requires : tie.Need-covers-requires
 covers-requires c κs = search rules
 
 returns : tie.Need-returns
-returns c = λ e. covers-entry _ _ _ c.before.before.if1.true (c.covers.ensures e)
+returns c = λ e. covers_entry _ _ _ c.before.before.if1.true (c.covers.ensures e)
 
 returns-2 : tie.Need-returns-2
-returns-2 c = λ e. covers-end _ _ _ c.if1.false
+returns-2 c = λ e. covers_end _ _ _ c.if1.false
 
 pub entry-covers-spec : {M : Type 1} → statement M
 entry-covers-spec =

@@ -7,9 +7,9 @@ use mathlib.Core.Logic.{inl, inr, ⊎_elim}
 use lib.ListN.{length, get_or, take}
 use Rattle.selectors.specs.Range.{contains}
 use Rattle.selectors.specs.Value.{number}
-use Rattle.policy.specs.Words.{rowLimit}
+use Rattle.policy.specs.Words.{row_limit}
 use Rattle.agree.specs.Sides.{range_of, those, SideRows}
-use Rattle.agree.specs.EntriesLaws.{take_more, cut-none, cut-next, sides-small}
+use Rattle.agree.specs.EntriesLaws.{take_more, cut_none, cut-next, sides-small}
 use borrow.Author.Rules.{rules}
 use Rattle.agree.proofs.merging.cut_entries.Statement.{statement}
 use Rattle.agree.proofs.merging.cut_entries.Tie as tie
@@ -18,14 +18,14 @@ abbrev invariant-loop : tie.invariant-loop
 invariant-loop rows list total field one other entries₀ count₀ i₀ entries count i =
     (i ≤ total)
     × ((count ≤ i)
-    × ((length entries ≡ 2 * rowLimit)
+    × ((length entries ≡ 2 * row_limit)
     × SideRows rows rows (those (λ k. contains (range_of rows k field) (number one)) (take i list)) (those (λ k. contains (range_of rows k field) (number other)) (take i list)) entries count))
 
 abbrev decreases-loop : tie.decreases-loop
 decreases-loop rows list total field one other entries₀ count₀ i₀ entries count i = total - i
 
 loop-holds : tie.Need-loop-init invariant-loop decreases-loop
-loop-holds c = (search rules, (search rules, (search rules, cut-none _ _ _ _)))
+loop-holds c = (search rules, (search rules, (search rules, cut_none _ _ _ _)))
 
 mul-row : tie.Need-overflow-mul-row invariant-loop decreases-loop
 mul-row c = search rules

@@ -4,9 +4,9 @@ use Prim.Native.Nat.{◌+◌, ◌*◌, ◌≤◌, ◌-◌}
 use native.Mathlib.Omega.{arith}
 use mathlib.Core.Path.{◌≡◌}
 use lib.ListN.{length, take}
-use Rattle.policy.specs.Words.{rowLimit}
+use Rattle.policy.specs.Words.{row_limit}
 use Rattle.agree.specs.Sides.{SideRows}
-use Rattle.agree.specs.EntriesLaws.{merge_none, merge-next, next_known, step-first, step-second, step-some}
+use Rattle.agree.specs.EntriesLaws.{merge_none, merge-next, next_known, step_first, step_second, step_some}
 use borrow.Author.Rules.{rules}
 use Rattle.agree.proofs.merging.merge.Statement.{statement}
 use Rattle.agree.proofs.merging.merge.Tie as tie
@@ -14,7 +14,7 @@ use Rattle.agree.proofs.merging.merge.Tie as tie
 abbrev invariant-loop : tie.invariant-loop
 invariant-loop first of-first firsts second of-second seconds entries₀ i₀ j₀ count₀ entries i j count =
     (i ≤ firsts)
-    × ((j ≤ seconds) × ((count ≤ i + j) × ((length entries ≡ 2 * rowLimit) × SideRows first second (take i of-first) (take j of-second) entries count)))
+    × ((j ≤ seconds) × ((count ≤ i + j) × ((length entries ≡ 2 * row_limit) × SideRows first second (take i of-first) (take j of-second) entries count)))
 
 abbrev decreases-loop : tie.decreases-loop
 decreases-loop first of-first firsts second of-second seconds entries₀ i₀ j₀ count₀ entries i j count = firsts + seconds - (i + j)
@@ -53,16 +53,16 @@ unless-requires : tie.Need-unless-requires invariant-loop decreases-loop
 unless-requires c κs = search rules
 
 add-i : tie.Need-overflow-add-i invariant-loop decreases-loop
-add-i c = let h = step-first _ _ _ _ _ _ _ _ _ _ 0 c.before.before.before.before.next_of.ensures c.unless.ensures c.before.before.before.before.before.before.loop.invariant.0 in omega arith
+add-i c = let h = step_first _ _ _ _ _ _ _ _ _ _ 0 c.before.before.before.before.next_of.ensures c.unless.ensures c.before.before.before.before.before.before.loop.invariant.0 in omega arith
 
 unless-requires-2 : tie.Need-unless-requires-2 invariant-loop decreases-loop
 unless-requires-2 c κs = search rules
 
 add-j : tie.Need-overflow-add-j invariant-loop decreases-loop
-add-j c = let h = step-second _ _ _ _ _ _ _ _ _ 0 _ c.before.before.before.before.before.next_of.ensures c.unless2.ensures c.before.before.before.before.before.before.before.loop.invariant.1.0 in omega arith
+add-j c = let h = step_second _ _ _ _ _ _ _ _ _ 0 _ c.before.before.before.before.before.next_of.ensures c.unless2.ensures c.before.before.before.before.before.before.before.loop.invariant.1.0 in omega arith
 
 loop-less : tie.Need-loop-smaller invariant-loop decreases-loop
-loop-less c = let h = step-some _ _ _ _ _ _ _ _ _ _ _ c.before.before.before.before.before.next_of.ensures c.before.unless.ensures c.unless2.ensures in omega arith
+loop-less c = let h = step_some _ _ _ _ _ _ _ _ _ _ _ c.before.before.before.before.before.next_of.ensures c.before.unless.ensures c.unless2.ensures in omega arith
 
 loop-again : tie.Need-loop-preserved invariant-loop decreases-loop
 loop-again c =
@@ -72,11 +72,11 @@ loop-again c =
     let t = c.before.before.before.before.before.next_of.ensures in
     let u = c.before.unless.ensures in
     let v = c.unless2.ensures in (
-      step-first _ _ _ _ _ _ _ _ _ _ 0 t u l.loop.invariant.0,
+      step_first _ _ _ _ _ _ _ _ _ _ 0 t u l.loop.invariant.0,
       (
-        step-second _ _ _ _ _ _ _ _ _ 0 _ t v l.loop.invariant.1.0,
+        step_second _ _ _ _ _ _ _ _ _ 0 _ t v l.loop.invariant.1.0,
         (
-          omega (arith, step-some _ _ _ _ _ _ _ _ _ _ _ t u v, l.loop.invariant.1.1.0),
+          omega (arith, step_some _ _ _ _ _ _ _ _ _ _ _ t u v, l.loop.invariant.1.1.0),
           (
             search rules,
             merge-next _ _ a.of-first.now a.of-second.now _ _ _ l.loop.i l.loop.j _ l.loop.invariant.1.1.1.1 l.loop.invariant.1.1.1.0

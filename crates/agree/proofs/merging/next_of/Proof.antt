@@ -3,15 +3,15 @@
 use Prim.Native.Nat.{◌+◌, ◌*◌, ◌≤◌}
 use native.Mathlib.Omega.{arith}
 use lib.ListN.{length}
-use Rattle.policy.specs.Words.{rowWords}
-use Rattle.agree.specs.EntriesLaws.{next-first, next-second, next_both}
+use Rattle.policy.specs.Words.{row_words}
+use Rattle.agree.specs.EntriesLaws.{next_first, next_second, next_both}
 use borrow.Author.Rules.{rules}
 use Rattle.agree.proofs.merging.next_of.Statement.{statement}
 use Rattle.agree.proofs.merging.next_of.Tie as tie
 
 -- The rows that are compared are there.
 rows_in : (c : tie.After-wide2) → (let s = c.before.before.before.before.before.before.before.before in
-    (c.before.before.wide.result * rowWords + rowWords ≤ length s.args.first.now) × (c.wide2.result * rowWords + rowWords ≤ length s.args.second.now))
+    (c.before.before.wide.result * row_words + row_words ≤ length s.args.first.now) × (c.wide2.result * row_words + row_words ≤ length s.args.second.now))
 rows_in c =
     let s = c.before.before.before.before.before.before.before.before in
     let a = s.requires.0.0.places s.args.i (omega arith) in
@@ -19,10 +19,10 @@ rows_in c =
     (omega (arith, c.before.before.wide.ensures), omega (arith, c.wide2.ensures))
 
 returns : tie.Need-returns
-returns c = next-second _ _ _ _ _ _ _ _ (omega arith)
+returns c = next_second _ _ _ _ _ _ _ _ (omega arith)
 
 returns-2 : tie.Need-returns-2
-returns-2 c = next-first _ _ _ _ _ _ _ _ (omega arith)
+returns-2 c = next_first _ _ _ _ _ _ _ _ (omega arith)
 
 mul_wide : tie.Need-overflow-mul-wide
 mul_wide c = search rules
@@ -57,10 +57,10 @@ ahead-requires-2 : tie.Need-ahead-requires-2
 ahead-requires-2 c κs = ((rows_in c.before.before.before).1, c.before.before.before.before.before.before.before.before.before.before.before.requires.0.0)
 
 returns-4 : tie.Need-returns-4
-returns-4 c = next-second _ _ _ _ _ _ _ _ (omega arith)
+returns-4 c = next_second _ _ _ _ _ _ _ _ (omega arith)
 
 returns-5 : tie.Need-returns-5
-returns-5 c = next-first _ _ _ _ _ _ _ _ (omega arith)
+returns-5 c = next_first _ _ _ _ _ _ _ _ (omega arith)
 
 pub next-of-spec : {M : Type 1} → statement M
 next-of-spec =

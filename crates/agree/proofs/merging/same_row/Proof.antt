@@ -6,7 +6,7 @@ use mathlib.Core.Path.{◌≡◌}
 use mathlib.Core.Bool.{false≢true}
 use lib.ListN.{get_or}
 use borrow.Author.Count.{below_more}
-use Rattle.policy.specs.Words.{rowWords}
+use Rattle.policy.specs.Words.{row_words}
 use Rattle.agree.specs.EntriesLaws.{row_same}
 use borrow.Author.Rules.{rules}
 use Rattle.agree.proofs.merging.same_row.Statement.{statement}
@@ -14,10 +14,10 @@ use Rattle.agree.proofs.merging.same_row.Tie as tie
 
 abbrev invariant-loop : tie.invariant-loop
 invariant-loop first a second b left right k₀ k =
-    (1 ≤ k) × ((k ≤ rowWords) × ((n : ℕ) → n < k → 1 ≤ n → get_or first (a * rowWords + n) 0 ≡ get_or second (b * rowWords + n) 0))
+    (1 ≤ k) × ((k ≤ row_words) × ((n : ℕ) → n < k → 1 ≤ n → get_or first (a * row_words + n) 0 ≡ get_or second (b * row_words + n) 0))
 
 abbrev decreases-loop : tie.decreases-loop
-decreases-loop first a second b left right k₀ k = rowWords - k
+decreases-loop first a second b left right k₀ k = row_words - k
 
 mul_left : tie.Need-overflow-mul-left invariant-loop decreases-loop
 mul_left c = search rules

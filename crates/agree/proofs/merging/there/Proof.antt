@@ -5,13 +5,13 @@ use native.Mathlib.Omega.{arith}
 use mathlib.Core.Bool.{false≢true}
 use lib.ListN.{length, get_or}
 use borrow.Author.Count.{below_more}
-use Rattle.policy.specs.Words.{rowWords}
+use Rattle.policy.specs.Words.{row_words}
 use borrow.Author.Rules.{rules}
 use Rattle.agree.proofs.merging.there.Statement.{statement}
 use Rattle.agree.proofs.merging.there.Tie as tie
 
 abbrev invariant-loop : tie.invariant-loop
-invariant-loop rows list total most i₀ i = (i ≤ total) × ((k : ℕ) → k < i → get_or list k 0 < length rows / rowWords)
+invariant-loop rows list total most i₀ i = (i ≤ total) × ((k : ℕ) → k < i → get_or list k 0 < length rows / row_words)
 
 abbrev decreases-loop : tie.decreases-loop
 decreases-loop rows list total most i₀ i = total - i

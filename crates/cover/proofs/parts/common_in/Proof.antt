@@ -1,8 +1,8 @@
 -- `cover::parts::common_in` meets its contract. The loop's invariant: all that the box and the row have in common is still in the box `shared`.
 -- The measure is the count of the fields from `f` on. Assumes nothing.
 use Rattle.std.proofs.Common.{◌-◌, ◌≤◌, rules}
-use Rattle.selectors.specs.Words.{fieldCount}
-use Rattle.cover.specs.BoxLaws.{common-none, common-more}
+use Rattle.selectors.specs.Words.{field_count}
+use Rattle.cover.specs.BoxLaws.{common_none, common_more}
 use Rattle.cover.specs.Boxes.{Common}
 use Rattle.cover.proofs.parts.common_in.Statement.{statement}
 use Rattle.cover.proofs.parts.common_in.Tie as tie
@@ -11,7 +11,7 @@ abbrev invariant-loop : tie.invariant-loop
 invariant-loop rows code field base shared₀ f₀ shared f = (field ≤ f) × Common rows base field shared₀.words shared.words
 
 abbrev decreases-loop : tie.decreases-loop
-decreases-loop rows code field base shared₀ f₀ shared f = fieldCount - f
+decreases-loop rows code field base shared₀ f₀ shared f = field_count - f
 
 ranges-word-requires : tie.Need-ranges-word-requires invariant-loop decreases-loop
 ranges-word-requires c κs = search rules
@@ -20,10 +20,10 @@ add-if1 : tie.Need-overflow-add-if1 invariant-loop decreases-loop
 add-if1 c = search rules
 
 returns : tie.Need-returns invariant-loop decreases-loop
-returns c = common-none _ _ _ _
+returns c = common_none _ _ _ _
 
 loop-holds : tie.Need-loop-init invariant-loop decreases-loop
-loop-holds c = (search rules, common-none _ _ _ _)
+loop-holds c = (search rules, common_none _ _ _ _)
 
 mul-ends-at : tie.Need-overflow-mul-ends-at invariant-loop decreases-loop
 mul-ends-at c = search rules
@@ -48,7 +48,7 @@ loop-less c = search rules
 
 loop-again : tie.Need-loop-preserved invariant-loop decreases-loop
 loop-again c = let e = c.before.before in
-    (search rules, common-more _ _ _ _ _ _ _ _ _ (search rules) (search rules) e.ends_at.ensures e.before.before.loop.invariant.1 c.before.raised.ensures c.lowered.ensures)
+    (search rules, common_more _ _ _ _ _ _ _ _ _ (search rules) (search rules) e.ends_at.ensures e.before.before.loop.invariant.1 c.before.raised.ensures c.lowered.ensures)
 
 returns-2 : tie.Need-returns-2 invariant-loop decreases-loop
 returns-2 c = rw (← c.before.before.before.ranges-word.ensures) c.before.loop.invariant.1

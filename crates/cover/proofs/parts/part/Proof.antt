@@ -1,6 +1,6 @@
 -- `cover::parts::part` meets its contract. By the side that is asked for. Assumes nothing.
 use Rattle.std.proofs.Common.{rules}
-use Rattle.cover.specs.BoxLaws.{part-upper, part-lower}
+use Rattle.cover.specs.BoxLaws.{part_upper, part-lower}
 use Rattle.cover.proofs.parts.part.Statement.{statement}
 use Rattle.cover.proofs.parts.part.Tie as tie
 
@@ -8,7 +8,7 @@ with-low-requires : tie.Need-with-low-requires
 with-low-requires c κs = search rules
 
 returns : tie.Need-returns
-returns c = rw c.before.if1.true (part-upper _ _ _ _ c.with-low.ensures)
+returns c = rw c.before.if1.true (part_upper _ _ _ _ c.with-low.ensures)
 
 previous-requires : tie.Need-previous-requires
 previous-requires c κs = search rules

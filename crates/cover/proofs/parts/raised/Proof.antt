@@ -1,5 +1,5 @@
 -- `cover::parts::raised` meets its contract. The low end is written, or the box stays as it is. Assumes nothing.
-use Rattle.cover.specs.BoxLaws.{raised-none}
+use Rattle.cover.specs.BoxLaws.{raised_none}
 use Rattle.std.proofs.Common.{rules}
 use Rattle.cover.proofs.parts.raised.Statement.{statement}
 use Rattle.cover.proofs.parts.raised.Tie as tie
@@ -23,7 +23,7 @@ returns : tie.Need-returns
 returns c = search rules
 
 returns-2 : tie.Need-returns-2
-returns-2 c = raised-none _ _ _
+returns-2 c = raised_none _ _ _
 
 pub raised-spec : {M : Type 1} → statement M
 raised-spec =

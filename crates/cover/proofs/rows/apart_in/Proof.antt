@@ -2,8 +2,8 @@
 -- on. Assumes nothing.
 use Rattle.std.proofs.Common.{◌-◌, ◌≤◌, rules}
 use mathlib.Core.Bool.{false≢true}
-use Rattle.selectors.specs.Words.{fieldCount}
-use Rattle.cover.specs.BoxLaws.{field-parts}
+use Rattle.selectors.specs.Words.{field_count}
+use Rattle.cover.specs.BoxLaws.{field_parts}
 use Rattle.cover.proofs.rows.apart_in.Statement.{statement}
 use Rattle.cover.proofs.rows.apart_in.Tie as tie
 
@@ -11,7 +11,7 @@ abbrev invariant-loop : tie.invariant-loop
 invariant-loop rows code field bounds base f₀ f = field ≤ f
 
 abbrev decreases-loop : tie.decreases-loop
-decreases-loop rows code field bounds base f₀ f = fieldCount - f
+decreases-loop rows code field bounds base f₀ f = field_count - f
 
 ranges-word-requires : tie.Need-ranges-word-requires invariant-loop decreases-loop
 ranges-word-requires c κs = search rules
@@ -46,7 +46,7 @@ ranges-apart-requires c κs = search rules
 returns-2 : tie.Need-returns-2 invariant-loop decreases-loop
 returns-2 c = let b = c.before.before in
     let l = b.before.before.before.before in
-    rw (← l.before.before.ranges-word.ensures) (λ e. field-parts _ _ _ _ l.loop.f (search rules) (search rules)
+    rw (← l.before.before.ranges-word.ensures) (λ e. field_parts _ _ _ _ l.loop.f (search rules) (search rules)
     (rw (b.before.before.ends_at.ensures, b.ends-at2.ensures) at (c.before.ranges_Apart.ensures c.if2.true)))
 
 add-f : tie.Need-overflow-add-f invariant-loop decreases-loop

@@ -3,8 +3,8 @@
 use Rattle.std.proofs.Common.{◌-◌, ◌≤◌, arith, rules}
 use mathlib.Core.Bool.{false≢true}
 use borrow.Author.Tests.{not-false}
-use Rattle.selectors.specs.Words.{fieldCount}
-use Rattle.cover.specs.BoxLaws.{CoversTo, covers-none, covers_more, covers-all}
+use Rattle.selectors.specs.Words.{field_count}
+use Rattle.cover.specs.BoxLaws.{CoversTo, covers_none, covers_more, covers_all}
 use Rattle.cover.proofs.rows.covers_in.Statement.{statement}
 use Rattle.cover.proofs.rows.covers_in.Tie as tie
 
@@ -12,7 +12,7 @@ abbrev invariant-loop : tie.invariant-loop
 invariant-loop rows code field bounds base f₀ f = (field ≤ f) × CoversTo rows base field bounds f
 
 abbrev decreases-loop : tie.decreases-loop
-decreases-loop rows code field bounds base f₀ f = fieldCount - f
+decreases-loop rows code field bounds base f₀ f = field_count - f
 
 ranges-word-requires : tie.Need-ranges-word-requires invariant-loop decreases-loop
 ranges-word-requires c κs = search rules
@@ -24,7 +24,7 @@ returns : tie.Need-returns invariant-loop decreases-loop
 returns c = λ e. absurd (false≢true e)
 
 loop-holds : tie.Need-loop-init invariant-loop decreases-loop
-loop-holds c = (search rules, covers-none _ _ _ _)
+loop-holds c = (search rules, covers_none _ _ _ _)
 
 mul-ends-at : tie.Need-overflow-mul-ends-at invariant-loop decreases-loop
 mul-ends-at c = search rules
@@ -57,11 +57,11 @@ loop-again : tie.Need-loop-preserved invariant-loop decreases-loop
 loop-again c = let b = c.before.before in (
   search rules,
   covers_more _ _ _ _ _ b.before.before.before.before.loop.invariant.1
-      (rw (b.before.before.ends_at.ensures, b.ends-at2.ensures) at (c.before.range-covers.ensures (not-false _ c.if2.false))),
+      (rw (b.before.before.ends_at.ensures, b.ends-at2.ensures) at (c.before.range_covers.ensures (not-false _ c.if2.false))),
 )
 
 returns-3 : tie.Need-returns-3 invariant-loop decreases-loop
-returns-3 c = rw (← c.before.before.before.ranges-word.ensures) (λ e. covers-all _ _ _ _ _ (omega arith) c.before.loop.invariant.1)
+returns-3 c = rw (← c.before.before.before.ranges-word.ensures) (λ e. covers_all _ _ _ _ _ (omega arith) c.before.loop.invariant.1)
 
 pub covers-in-spec : {M : Type 1} → statement M
 covers-in-spec =

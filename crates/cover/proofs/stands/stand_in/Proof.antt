@@ -1,8 +1,8 @@
 -- `cover::stands::stand_in` meets its contract. The loop's invariant: the row is not apart from the box so far, and holds the box's values in
 -- the fields from `field` on and before `f` if it is said to cover it. The measure is the count of the fields from `f` on. Assumes nothing.
 use Rattle.std.proofs.Common.{◌≡◌, ◌-◌, ◌≤◌, true, false, arith, rules}
-use Rattle.selectors.specs.Words.{fieldCount}
-use Rattle.cover.specs.BoxLaws.{CoversTo, covers-none, covers_more, covers-all, box-apart, box-covered, box-unknown}
+use Rattle.selectors.specs.Words.{field_count}
+use Rattle.cover.specs.BoxLaws.{CoversTo, covers_none, covers_more, covers_all, box_apart, box_covered, box_unknown}
 use Rattle.cover.proofs.stands.stand_in.Statement.{statement}
 use Rattle.cover.proofs.stands.stand_in.Tie as tie
 
@@ -10,7 +10,7 @@ abbrev invariant-loop : tie.invariant-loop
 invariant-loop rows code field bounds base s₀ f₀ s f = (field ≤ f) × ((s.apart ≡ false) × (s.covers ≡ true → CoversTo rows base field bounds f))
 
 abbrev decreases-loop : tie.decreases-loop
-decreases-loop rows code field bounds base s₀ f₀ s f = fieldCount - f
+decreases-loop rows code field bounds base s₀ f₀ s f = field_count - f
 
 ranges-word-requires : tie.Need-ranges-word-requires invariant-loop decreases-loop
 ranges-word-requires c κs = search rules
@@ -22,13 +22,13 @@ uncut-requires : tie.Need-uncut-requires invariant-loop decreases-loop
 uncut-requires c κs = search rules
 
 returns : tie.Need-returns invariant-loop decreases-loop
-returns c = box-unknown _ _ _ _ _ c.uncut.ensures.0 c.uncut.ensures.1
+returns c = box_unknown _ _ _ _ _ c.uncut.ensures.0 c.uncut.ensures.1
 
 uncut-requires-2 : tie.Need-uncut-requires-2 invariant-loop decreases-loop
 uncut-requires-2 c κs = search rules
 
 loop-holds : tie.Need-loop-init invariant-loop decreases-loop
-loop-holds c = (search rules, (search rules, λ e. covers-none _ _ _ _))
+loop-holds c = (search rules, (search rules, λ e. covers_none _ _ _ _))
 
 mul-ends-at : tie.Need-overflow-mul-ends-at invariant-loop decreases-loop
 mul-ends-at c = search rules
@@ -51,7 +51,7 @@ stand-one-requires c κs = search rules
 returns-2 : tie.Need-returns-2 invariant-loop decreases-loop
 returns-2 c = let b = c.before.before in
     let l = b.before.before.before.before in
-    rw (← l.before.before.before.ranges-word.ensures) (box-apart _ _ _ _ l.loop.f _ _ (search rules) (search rules) c.if2.true
+    rw (← l.before.before.before.ranges-word.ensures) (box_apart _ _ _ _ l.loop.f _ _ (search rules) (search rules) c.if2.true
     (rw (b.before.before.ends_at.ensures, b.ends-at2.ensures) at c.before.stand-one.ensures))
 
 add-f : tie.Need-overflow-add-f invariant-loop decreases-loop
@@ -73,7 +73,7 @@ loop-again c = let b = c.before.before in
 
 returns-3 : tie.Need-returns-3 invariant-loop decreases-loop
 returns-3 c = let i = c.before.loop.invariant.1 in
-    rw (← c.before.before.before.before.ranges-word.ensures) (box-covered _ _ _ _ _ i.0 (λ e. covers-all _ _ _ _ _ (omega arith) (i.1 e)))
+    rw (← c.before.before.before.before.ranges-word.ensures) (box_covered _ _ _ _ _ i.0 (λ e. covers_all _ _ _ _ _ (omega arith) (i.1 e)))
 
 pub stand-in-spec : {M : Type 1} → statement M
 stand-in-spec =

@@ -1,6 +1,6 @@
 -- `cover::stands::stand_one` meets its contract. By the order of the ends. Assumes nothing.
 use Rattle.std.proofs.Common.{sym, ◌∙◌, rules, ltb-false}
-use Rattle.cover.specs.BoxLaws.{range-covers, field_apart, field_cut, field-covered}
+use Rattle.cover.specs.BoxLaws.{range_covers, field_apart, field_cut, field_covered}
 use Rattle.cover.proofs.stands.stand_one.Statement.{statement}
 use Rattle.cover.proofs.stands.stand_one.Tie as tie
 
@@ -41,7 +41,7 @@ returns-3 : tie.Need-returns-3
 returns-3 c = field_cut _ _ _ _ c.cut-at2.ensures.0 c.cut-at2.ensures.1
 
 returns-4 : tie.Need-returns-4
-returns-4 c = field-covered _ _ _ c.before.before.before.before.before.before.requires (range-covers _ _
+returns-4 c = field_covered _ _ _ c.before.before.before.before.before.before.requires (range_covers _ _
     (ltb-false _ _ (sym c.before.before.before.less.ensures ∙ c.before.before.if2.false))
     (ltb-false _ _ (sym c.before.less2.ensures ∙ c.if3.false)))
 

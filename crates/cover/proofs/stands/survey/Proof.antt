@@ -1,7 +1,7 @@
 -- `cover::stands::survey` meets its contract. The loop's invariant: no row so far is said to cover the box. The measure is the count of the
 -- rows not looked at. Assumes nothing.
 use Rattle.std.proofs.Common.{◌≡◌, ◌-◌, ◌≤◌, false, rules}
-use Rattle.cover.specs.BoxLaws.{surveyed-row, surveyed-none}
+use Rattle.cover.specs.BoxLaws.{surveyed-row, surveyed_none}
 use Rattle.cover.proofs.stands.survey.Statement.{statement}
 use Rattle.cover.proofs.stands.survey.Tie as tie
 
@@ -42,7 +42,7 @@ loop-again : tie.Need-loop-preserved invariant-loop decreases-loop
 loop-again c = search rules
 
 returns-2 : tie.Need-returns-2 invariant-loop decreases-loop
-returns-2 c = surveyed-none _ _ _ _ _ _ _ c.before.loop.invariant.1
+returns-2 c = surveyed_none _ _ _ _ _ _ _ c.before.loop.invariant.1
 
 pub survey-spec : {M : Type 1} → statement M
 survey-spec =

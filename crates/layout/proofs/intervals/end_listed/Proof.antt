@@ -4,7 +4,7 @@ use Prim.Native.Nat.{◌≤◌, ◌<◌, ◌-◌, ◌/◌}
 use native.Mathlib.Omega.{arith}
 use mathlib.Core.Path.{◌≡◌}
 use lib.ListN.{length}
-use Rattle.policy.specs.Words.{rowWords}
+use Rattle.policy.specs.Words.{row_words}
 use Rattle.selectors.specs.Value.{number}
 use Rattle.layout.specs.Steps.{IntervalEnd}
 use Rattle.layout.specs.Lists.{AlikeListed}
@@ -24,7 +24,7 @@ abbrev decreases-loop : tie.decreases-loop
 decreases-loop rows list count field from end₀ i₀ end i = count - i
 
 -- The row is one of the policy's.
-row_in : (c : tie.After-wide invariant-loop decreases-loop) → c.wide.result < length c.before.before.before.before.before.args.rows.now / rowWords
+row_in : (c : tie.After-wide invariant-loop decreases-loop) → c.wide.result < length c.before.before.before.before.before.args.rows.now / row_words
 row_in c = omega (arith, c.wide.ensures, c.before.before.before.before.before.requires.1.0.places c.before.before.before.loop.i c.before.before.loop-test.true)
 
 loop-holds : tie.Need-loop-init invariant-loop decreases-loop

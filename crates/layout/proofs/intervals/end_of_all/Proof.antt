@@ -6,9 +6,9 @@ use mathlib.Core.Path.{◌≡◌}
 use lib.ListN.{length}
 use Rattle.selectors.specs.Value.{number}
 use Rattle.layout.specs.Steps.{IntervalEnd, AlikeAmong}
-use Rattle.selectors.specs.Words.{valuesFrom}
-use Rattle.policy.specs.Words.{rowWords}
-use Rattle.layout.specs.StepsLaws.{among-start, ends_more}
+use Rattle.selectors.specs.Words.{values_from}
+use Rattle.policy.specs.Words.{row_words}
+use Rattle.layout.specs.StepsLaws.{among_start, ends_more}
 use borrow.Author.Rules.{rules}
 use Rattle.layout.proofs.intervals.end_of_all.Statement.{statement}
 use Rattle.layout.proofs.intervals.end_of_all.Tie as tie
@@ -16,13 +16,13 @@ use Rattle.layout.proofs.intervals.end_of_all.Tie as tie
 abbrev invariant-loop : tie.invariant-loop
 invariant-loop rows direction field from point count end₀ row₀ end row =
     (row ≤ count)
-    × IntervalEnd (number from) (number end₀) (number end) (AlikeAmong direction rows row field (valuesFrom point 0 field) (number from) (number end))
+    × IntervalEnd (number from) (number end₀) (number end) (AlikeAmong direction rows row field (values_from point 0 field) (number from) (number end))
 
 abbrev decreases-loop : tie.decreases-loop
 decreases-loop rows direction field from point count end₀ row₀ end row = count - row
 
 loop-holds : tie.Need-loop-init invariant-loop decreases-loop
-loop-holds c = (search rules, among-start _ _ _ _ _ _ c.before.before.requires.1)
+loop-holds c = (search rules, among_start _ _ _ _ _ _ c.before.before.requires.1)
 
 row-end-requires : tie.Need-row-end-requires invariant-loop decreases-loop
 row-end-requires c κs = ((search rules, search rules), c.before.before.loop.invariant.1.reaches)
@@ -39,7 +39,7 @@ loop-again c = (search rules, ends_more _ _ _ _ _ _ _ _ _ c.before.before.before
 returns : tie.Need-returns invariant-loop decreases-loop
 returns c =
     let l = c.before.loop in
-    let e : l.row ≡ length c.before.before.before.before.args.rows.now / rowWords = omega arith in
+    let e : l.row ≡ length c.before.before.before.before.args.rows.now / row_words = omega arith in
     rw e at l.invariant.1
 
 pub end-of-all-spec : {M : Type 1} → statement M

@@ -1,6 +1,6 @@
 -- `layout::intervals::interval_end` meets its contract: one policy after the other. Assumes nothing.
 use borrow.Author.Rules.{rules}
-use Rattle.layout.specs.StepsLaws.{ends-both}
+use Rattle.layout.specs.StepsLaws.{ends_both}
 use Rattle.layout.proofs.intervals.interval_end.Statement.{statement}
 use Rattle.layout.proofs.intervals.interval_end.Tie as tie
 
@@ -11,7 +11,7 @@ end-among-requires-2 : tie.Need-end-among-requires-2
 end-among-requires-2 c κs = let s = c.before.before.before.before in ((s.requires.0.0, c.end-among.ensures.reaches), s.requires.1.1)
 
 returns : tie.Need-returns
-returns c = ends-both _ _ _ _ _ _ _ _ c.before.end-among.ensures c.end-among2.ensures
+returns c = ends_both _ _ _ _ _ _ _ _ c.before.end-among.ensures c.end-among2.ensures
 
 pub interval-end-spec : {M : Type 1} → statement M
 interval-end-spec = tie.close (tie.spec end-among-requires end-among-requires-2 returns)

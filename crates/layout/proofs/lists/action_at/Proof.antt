@@ -5,26 +5,26 @@ use native.Mathlib.Omega.{arith}
 use mathlib.Core.Path.{sym, ◌∙◌}
 use lib.ListN.{length}
 use Rattle.selectors.specs.Value.{combination}
-use Rattle.policy.specs.Words.{rowWords}
-use Rattle.policy.specs.WordsLaws.{match-bound}
-use Rattle.layout.specs.DecodeLaws.{point-values, action-found, action-missing}
-use Rattle.layout.specs.ListsLaws.{lists-within, lists-found, lists-none}
+use Rattle.policy.specs.Words.{row_words}
+use Rattle.policy.specs.WordsLaws.{match_bound}
+use Rattle.layout.specs.DecodeLaws.{point_values, action-found, action_missing}
+use Rattle.layout.specs.ListsLaws.{lists_within, lists-found, lists_none}
 use borrow.Author.Rules.{rules}
 use Rattle.layout.proofs.lists.action_at.Statement.{statement}
 use Rattle.layout.proofs.lists.action_at.Tie as tie
 
 -- The first listed row is one of the rows, and so is a match.
-listed-row : (c : tie.After-wide) → c.wide.result < length c.before.before.before.before.args.rows.now / rowWords
+listed-row : (c : tie.After-wide) → c.wide.result < length c.before.before.before.before.args.rows.now / row_words
 listed-row c =
     let s = c.before.before.before.before in
-    omega (arith, c.wide.ensures, (lists-within _ _ _ _ _ _ s.requires).places 0 c.before.before.if1.true)
+    omega (arith, c.wide.ensures, (lists_within _ _ _ _ _ _ s.requires).places 0 c.before.before.if1.true)
 
-found-row : (c : tie.After-known-told) → c.before.found.given.0.0 < length c.before.before.before.before.before.before.before.before.before.before.args.rows.now / rowWords
+found-row : (c : tie.After-known-told) → c.before.found.given.0.0 < length c.before.before.before.before.before.before.before.before.before.before.args.rows.now / row_words
 found-row c =
     let s = c.before.before.before.before.before.before.before.before.before.before in
     omega (
       arith,
-      match-bound s.args.direction s.args.rows.now (combination c.before.before.before.before.selectors-of.result) 0 _ _ (sym c.before.before.before.first-match.ensures ∙ c.before.found.given.1),
+      match_bound s.args.direction s.args.rows.now (combination c.before.before.before.before.selectors-of.result) 0 _ _ (sym c.before.before.before.first_match.ensures ∙ c.before.found.given.1),
     )
 
 element-copy-out-wide : tie.Need-element-copy-out-wide
@@ -50,7 +50,7 @@ returns c = let s = c.before.before.before.before.before in
     rw c.before.wide.ensures (lists-found _ _ _ _ _ s.requires c.before.before.before.if1.true)
 
 returns-2 : tie.Need-returns-2
-returns-2 c = lists-none _ _ _ _ _ c.before.before.before.requires (omega (arith, c.before.if1.false)) c.if2.true
+returns-2 c = lists_none _ _ _ _ _ c.before.before.before.requires (omega (arith, c.before.if1.false)) c.if2.true
 
 selectors-of-requires : tie.Need-selectors-of-requires
 selectors-of-requires c κs = search rules
@@ -66,7 +66,7 @@ enum_told c = search rules
 
 returns-3 : tie.Need-returns-3
 returns-3 c = let s = c.before.before.before.before.before.before.before.before.before in
-    action-missing s.args.direction s.args.rows.now _ _ _ (point-values _ _ c.before.before.before.selectors-of.ensures) c.before.before.first-match.ensures c.enum_told.given.1
+    action_missing s.args.direction s.args.rows.now _ _ _ (point_values _ _ c.before.before.before.selectors-of.ensures) c.before.before.first_match.ensures c.enum_told.given.1
 
 mul-result-3 : tie.Need-overflow-mul-result-3
 mul-result-3 c = let h = found-row c in search rules
@@ -82,7 +82,7 @@ shared-slice-read-result-2 c = let h = found-row c.before in search rules
 
 returns-4 : tie.Need-returns-4
 returns-4 c = let s = c.before.before.before.before.before.before.before.before.before.before.before in
-    action-found s.args.direction s.args.rows.now _ _ _ (point-values _ _ c.before.before.before.before.before.selectors-of.ensures) c.before.before.before.before.first-match.ensures _ c.before.before.found.given.1
+    action-found s.args.direction s.args.rows.now _ _ _ (point_values _ _ c.before.before.before.before.before.selectors-of.ensures) c.before.before.before.before.first_match.ensures _ c.before.before.found.given.1
 
 pub action-at-spec : {M : Type 1} → statement M
 action-at-spec =

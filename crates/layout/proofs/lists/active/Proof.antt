@@ -2,8 +2,8 @@
 use mathlib.Core.Path.{sym, ◌∙◌}
 use borrow.Author.Tests.{not-true, not-false}
 use borrow.Author.Rules.{rules}
-use Rattle.selectors.specs.HeldLaws.{held-there}
-use Rattle.cover.specs.Boxes.{rangesWord}
+use Rattle.selectors.specs.HeldLaws.{held_there}
+use Rattle.cover.specs.Boxes.{ranges_word}
 use Rattle.layout.specs.Decode.{active}
 use Rattle.layout.proofs.lists.active.Statement.{statement}
 use Rattle.layout.proofs.lists.active.Tie as tie
@@ -40,7 +40,7 @@ returns-2 : tie.Need-returns-2
 unfolding active
 returns-2 c = rw (← c.before.before.before.direction-of.ensures, sym c.before.before.applies-to.ensures ∙ not-false _ c.before.if1.false)
     (let s = c.before.before.before.before.before.before in
-    c.ranges-hold.ensures ∙ held-there s.args.rows.now (rangesWord s.args.row) s.args.point.now s.args.field (search rules) (search rules))
+    c.ranges-hold.ensures ∙ held_there s.args.rows.now (ranges_word s.args.row) s.args.point.now s.args.field (search rules) (search rules))
 
 pub active-spec : {M : Type 1} → statement M
 active-spec =

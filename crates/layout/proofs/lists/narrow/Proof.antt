@@ -10,7 +10,7 @@ use lib.ListN.{length, get_or, take}
 use lib.Seq.{take-suc}
 use Rattle.selectors.specs.Range.{contains}
 use Rattle.selectors.specs.Value.{number}
-use Rattle.policy.specs.Words.{rowWords}
+use Rattle.policy.specs.Words.{row_words}
 use Rattle.agree.specs.Sides.{range_of, Takes}
 use Rattle.agree.specs.TakesLaws.{takes_none, takes-next}
 use borrow.Author.Rules.{rules}
@@ -25,7 +25,7 @@ abbrev decreases-loop : tie.decreases-loop
 decreases-loop rows old total field value list₀ count₀ i₀ list count i = total - i
 
 -- The row is one of the policy's, and the test asks whether its range holds the value.
-row_in : (c : tie.After-wide invariant-loop decreases-loop) → c.wide.result < length c.before.before.before.before.before.args.rows.now / rowWords
+row_in : (c : tie.After-wide invariant-loop decreases-loop) → c.wide.result < length c.before.before.before.before.before.args.rows.now / row_words
 row_in c = omega (arith, c.wide.ensures, c.before.before.before.before.before.requires.0.1.places c.before.before.before.loop.i c.before.before.loop-test.true)
 
 held : (c : tie.After-holds invariant-loop decreases-loop) (b : Bool) → c.holds.result ≡ b

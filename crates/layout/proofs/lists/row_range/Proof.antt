@@ -3,8 +3,8 @@ use native.Mathlib.Omega.{arith}
 use mathlib.Core.Path.{◌∙◌}
 use Prim.Native.Nat.{◌+◌, ◌-◌}
 use borrow.Author.Rules.{rules}
-use Rattle.selectors.specs.Words.{rangeWords}
-use Rattle.cover.specs.RangesLaws.{ends-lent}
+use Rattle.selectors.specs.Words.{range_words}
+use Rattle.cover.specs.RangesLaws.{ends_lent}
 use Rattle.layout.specs.Decode.{word_of}
 use Rattle.layout.proofs.lists.row_range.Statement.{statement}
 use Rattle.layout.proofs.lists.row_range.Tie as tie
@@ -43,7 +43,7 @@ returns : tie.Need-returns
 returns c =
     let s = c.before.before.before in
     let at = word_of s.args.row s.args.field in
-    c.ends_at.ensures ∙ ends-lent s.args.rows.now at (at + rangeWords - at) (omega arith)
+    c.ends_at.ensures ∙ ends_lent s.args.rows.now at (at + range_words - at) (omega arith)
 
 pub row-range-spec : {M : Type 1} → statement M
 row-range-spec =

@@ -6,7 +6,7 @@ use mathlib.Core.Path.{◌≡◌, sym, ◌∙◌}
 use mathlib.Core.List.{[]}
 use mathlib.Core.Logic.{inl, inr, ⊎_elim}
 use Rattle.agree.specs.Sides.{Takes}
-use Rattle.selectors.specs.Words.{valuesFrom}
+use Rattle.selectors.specs.Words.{values_from}
 use Rattle.layout.specs.Decode.{active}
 use Rattle.layout.specs.Lists.{up_from}
 use Rattle.agree.specs.TakesLaws.{takes_none, takes-next}
@@ -55,7 +55,7 @@ loop-less : tie.Need-loop-smaller invariant-loop decreases-loop
 loop-less c = search rules
 
 loop-again : tie.Need-loop-preserved invariant-loop decreases-loop
-unfolding valuesFrom
+unfolding values_from
 loop-again c =
     let l = c.before.before.before.before in (
       search rules,

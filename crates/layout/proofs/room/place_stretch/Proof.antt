@@ -1,7 +1,7 @@
 -- `layout::room::place_stretch` meets its contract, case by case. Assumes nothing.
 use mathlib.Core.Path.{refl}
 use borrow.Author.Rules.{rules}
-use Rattle.layout.specs.StretchesLaws.{placed-rows, placed-again, placed-over}
+use Rattle.layout.specs.StretchesLaws.{placed_rows, placed_again, placed_over}
 use Rattle.layout.proofs.room.place_stretch.Statement.{statement}
 use Rattle.layout.proofs.room.place_stretch.Tie as tie
 
@@ -21,13 +21,13 @@ same_length : tie.Need-same-length
 same_length c = search rules
 
 returns : tie.Need-returns
-returns c = placed-rows _ _ _ _ _ _ _ _ _ c.before.before.before.before.before.laid.given.1 c.before.before.place.ensures
+returns c = placed_rows _ _ _ _ _ _ _ _ _ c.before.before.before.before.before.laid.given.1 c.before.before.place.ensures
 
 returns-2 : tie.Need-returns-2
-returns-2 c = placed-again _ _ _ _ _ _ _ _ c.enum_told.given.1 refl refl
+returns-2 c = placed_again _ _ _ _ _ _ _ _ c.enum_told.given.1 refl refl
 
 returns-3 : tie.Need-returns-3
-returns-3 c = placed-over _ _ _ _ _ _ _ _ c.enum-told2.given.1
+returns-3 c = placed_over _ _ _ _ _ _ _ _ c.enum-told2.given.1
 
 pub place-stretch-spec : {M : Type 1} → statement M
 place-stretch-spec =

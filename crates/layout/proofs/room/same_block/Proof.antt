@@ -1,6 +1,6 @@
 -- `layout::room::same_block` meets its contract: the counts, and then the rows. Assumes nothing.
 use borrow.Author.Rules.{rules}
-use Rattle.layout.specs.DecodeLaws.{never, blocks-apart}
+use Rattle.layout.specs.DecodeLaws.{never, blocks_apart}
 use Rattle.layout.proofs.room.same_block.Statement.{statement}
 use Rattle.layout.proofs.room.same_block.Tie as tie
 
@@ -8,7 +8,7 @@ sub-if1 : tie.Need-overflow-sub-if1
 sub-if1 c = search rules
 
 returns : tie.Need-returns
-returns c = never (blocks-apart _ _ _ _ _ _ _ c.if1.true)
+returns c = never (blocks_apart _ _ _ _ _ _ _ c.if1.true)
 
 same-rows-requires : tie.Need-same-rows-requires
 same-rows-requires c κs = search rules

@@ -5,19 +5,19 @@ use mathlib.Core.Path.{◌≡◌, sym, ◌∙◌}
 use mathlib.Core.Logic.{◌↔◌}
 use borrow.Author.Tests.{not-true, not-false}
 use borrow.Author.Rules.{rules}
-use Rattle.selectors.specs.Words.{fieldCount}
-use Rattle.layout.specs.Decode.{rowRanges}
-use Rattle.layout.specs.DecodeLaws.{always, never, same-ranges-go, same-ranges-stop, same-ranges-end}
+use Rattle.selectors.specs.Words.{field_count}
+use Rattle.layout.specs.Decode.{row_ranges}
+use Rattle.layout.specs.DecodeLaws.{always, never, same_ranges_go, same_ranges_stop, same_ranges_end}
 use Rattle.layout.proofs.room.same_ranges.Statement.{statement}
 use Rattle.layout.proofs.room.same_ranges.Tie as tie
 
 abbrev invariant-loop : tie.invariant-loop
 invariant-loop room a b field left right f₀ f =
-    (f ≤ fieldCount)
-    × ((rowRanges room a field (fieldCount - field) ≡ rowRanges room b field (fieldCount - field)) ↔ (rowRanges room a f (fieldCount - f) ≡ rowRanges room b f (fieldCount - f)))
+    (f ≤ field_count)
+    × ((row_ranges room a field (field_count - field) ≡ row_ranges room b field (field_count - field)) ↔ (row_ranges room a f (field_count - f) ≡ row_ranges room b f (field_count - f)))
 
 abbrev decreases-loop : tie.decreases-loop
-decreases-loop room a b field left right f₀ f = fieldCount - f
+decreases-loop room a b field left right f₀ f = field_count - f
 
 mul_left : tie.Need-overflow-mul-left invariant-loop decreases-loop
 mul_left c = search rules
@@ -52,7 +52,7 @@ same-range-requires c κs = search rules
 returns : tie.Need-returns invariant-loop decreases-loop
 returns c = let s = c.before.before.before.before.before in
     let l = c.before.before.before.loop in
-    never (λ p. same-ranges-stop s.args.room.now s.args.a s.args.b l.f (search rules)
+    never (λ p. same_ranges_stop s.args.room.now s.args.a s.args.b l.f (search rules)
     (sym c.before.same-range.ensures ∙ not-true _ c.if1.true) (l.invariant.1.0 p))
 
 add-f : tie.Need-overflow-add-f invariant-loop decreases-loop
@@ -64,12 +64,12 @@ loop-less c = search rules
 loop-again : tie.Need-loop-preserved invariant-loop decreases-loop
 loop-again c = let s = c.before.before.before.before.before in
     let l = c.before.before.before.loop in
-    let go = same-ranges-go s.args.room.now s.args.a s.args.b l.f (search rules) (sym c.before.same-range.ensures ∙ not-false _ c.if1.false) in
+    let go = same_ranges_go s.args.room.now s.args.a s.args.b l.f (search rules) (sym c.before.same-range.ensures ∙ not-false _ c.if1.false) in
     (search rules, (λ p. go.0 (l.invariant.1.0 p), λ p. l.invariant.1.1 (go.1 p)))
 
 returns-2 : tie.Need-returns-2 invariant-loop decreases-loop
 returns-2 c = let s = c.before.before.before in
-    always (c.before.loop.invariant.1.1 (same-ranges-end s.args.room.now s.args.a s.args.b c.before.loop.f (search rules)))
+    always (c.before.loop.invariant.1.1 (same_ranges_end s.args.room.now s.args.a s.args.b c.before.loop.f (search rules)))
 
 pub same-ranges-spec : {M : Type 1} → statement M
 same-ranges-spec =

@@ -1,6 +1,6 @@
 -- `layout::room::same_row` meets its contract: the first two words, and then the ranges. Assumes nothing.
 use borrow.Author.Rules.{rules}
-use Rattle.layout.specs.DecodeLaws.{never, same-row-first, same-row-second, same-row-ranges}
+use Rattle.layout.specs.DecodeLaws.{never, same-row_first, same-row_second, same-row_ranges}
 use Rattle.layout.proofs.room.same_row.Statement.{statement}
 use Rattle.layout.proofs.room.same_row.Tie as tie
 
@@ -23,7 +23,7 @@ shared-slice-read-if1-2 : tie.Need-shared-slice-read-if1-2
 shared-slice-read-if1-2 c = search rules
 
 returns : tie.Need-returns
-returns c = never (same-row-first _ _ _ _ _ c.if1.true)
+returns c = never (same-row_first _ _ _ _ _ c.if1.true)
 
 mul-if2 : tie.Need-overflow-mul-if2
 mul-if2 c = search rules
@@ -50,13 +50,13 @@ shared-slice-read-if2-2 : tie.Need-shared-slice-read-if2-2
 shared-slice-read-if2-2 c = search rules
 
 returns-2 : tie.Need-returns-2
-returns-2 c = never (same-row-second _ _ _ _ _ c.if2.true)
+returns-2 c = never (same-row_second _ _ _ _ _ c.if2.true)
 
 same-ranges-requires : tie.Need-same-ranges-requires
 same-ranges-requires c κs = search rules
 
 returns-3 : tie.Need-returns-3
-returns-3 c = same-row-ranges _ _ _ _ _ _ c.before.before.before.before.if1.false c.before.if2.false c.same-ranges.ensures
+returns-3 c = same-row_ranges _ _ _ _ _ _ c.before.before.before.before.if1.false c.before.if2.false c.same-ranges.ensures
 
 pub same-row-spec : {M : Type 1} → statement M
 same-row-spec =

@@ -6,23 +6,23 @@ use mathlib.Core.Path.{◌≡◌}
 use lib.ListN.{length}
 use borrow.Author.Rules.{rules}
 use Rattle.selectors.specs.Value.{number}
-use Rattle.selectors.specs.Words.{fieldCount}
+use Rattle.selectors.specs.Words.{field_count}
 use Rattle.layout.specs.Steps.{Stamped}
-use Rattle.layout.specs.StepsLaws.{stamped-none, stamped-more}
+use Rattle.layout.specs.StepsLaws.{stamped_none, stamped_more}
 use Rattle.layout.proofs.room.stamp.Statement.{statement}
 use Rattle.layout.proofs.room.stamp.Tie as tie
 
 abbrev invariant-loop : tie.invariant-loop
 invariant-loop room₀ a b field low high row₀ room row =
     (length room ≡ length room₀)
-    × ((a ≤ row) × ((row ≤ b) × Stamped field (fieldCount - (field + 1)) a row (number low) (number high) room₀ room))
+    × ((a ≤ row) × ((row ≤ b) × Stamped field (field_count - (field + 1)) a row (number low) (number high) room₀ room))
 
 abbrev decreases-loop : tie.decreases-loop
 decreases-loop room₀ a b field low high row₀ room row = b - row
 
 loop-holds : tie.Need-loop-init invariant-loop decreases-loop
 loop-holds c = let a = c.before.args in
-    (search rules, (search rules, (search rules, stamped-none a.field _ a.a (number a.low) (number a.high) a.room.now)))
+    (search rules, (search rules, (search rules, stamped_none a.field _ a.a (number a.low) (number a.high) a.room.now)))
 
 stamp-row-requires : tie.Need-stamp-row-requires invariant-loop decreases-loop
 stamp-row-requires c κs = search rules
@@ -35,7 +35,7 @@ loop-less c = search rules
 
 loop-again : tie.Need-loop-preserved invariant-loop decreases-loop
 loop-again c = let i = c.before.before.before.before.before.loop.invariant in
-    (search rules, (search rules, (search rules, stamped-more _ _ _ _ _ _ _ _ _ (omega arith) i.1.0 i.1.1.1 c.before.before.stamp-row.ensures)))
+    (search rules, (search rules, (search rules, stamped_more _ _ _ _ _ _ _ _ _ (omega arith) i.1.0 i.1.1.1 c.before.before.stamp-row.ensures)))
 
 same_length : tie.Need-same-length invariant-loop decreases-loop
 same_length c = search rules

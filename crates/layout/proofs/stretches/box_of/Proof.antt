@@ -1,7 +1,7 @@
 -- `layout::stretches::box_of` meets its contract: all values from 0 to the highest. Assumes nothing.
 use mathlib.Core.Path.{refl}
 use borrow.Author.Rules.{rules}
-use Rattle.layout.specs.AlikeLaws.{whole-box}
+use Rattle.layout.specs.AlikeLaws.{whole_box}
 use Rattle.layout.proofs.stretches.box_of.Statement.{statement}
 use Rattle.layout.proofs.stretches.box_of.Tie as tie
 
@@ -36,7 +36,7 @@ array-read-t32 : tie.Need-array-read-t32
 array-read-t32 c = search rules
 
 returns : tie.Need-returns
-returns c = whole-box _ _ refl
+returns c = whole_box _ _ refl
 
 pub box-of-spec : {M : Type 1} → statement M
 box-of-spec =

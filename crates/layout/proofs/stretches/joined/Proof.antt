@@ -6,7 +6,7 @@ use borrow.Author.Tests.{not-false, ltb-true}
 use Prim.Native.Nat.{◌<◌}
 use borrow.Author.Rules.{rules}
 use Rattle.selectors.specs.Value.{number}
-use Rattle.layout.specs.AlikeLaws.{alike-joined}
+use Rattle.layout.specs.AlikeLaws.{alike_joined}
 use Rattle.layout.specs.FormLaws.{values_length}
 use Rattle.layout.specs.Stretches.{Joins}
 use Rattle.layout.proofs.stretches.joined.Statement.{statement}
@@ -53,7 +53,7 @@ returns-5 c e =
     let whole = c.before.before.before.before.box_of.ensures in
     let v = c.before.before.before.previous.ensures in
     let more : 0 < number s.args.from = ltb-true _ _ (sym c.before.before.before.before.before.before.before.before.less.ensures ∙ not-false _ c.before.before.before.before.before.before.before.if2.false) in
-    (more, rw v at (alike-joined _ _ s.args.task _ _ (values_length _ 0 _) _ whole few.0 few.1 _ _ _ _ s.requires.1.of-first s.requires.1.of-second (omega (arith, s.requires.0)) _ _ (c.before.before.same-behind.ensures (not-false _ c.before.if4.false)) (c.same-behind2.ensures e)))
+    (more, rw v at (alike_joined _ _ s.args.task _ _ (values_length _ 0 _) _ whole few.0 few.1 _ _ _ _ s.requires.1.of-first s.requires.1.of-second (omega (arith, s.requires.0)) _ _ (c.before.before.same-behind.ensures (not-false _ c.before.if4.false)) (c.same-behind2.ensures e)))
 
 pub joined-spec : {M : Type 1} → statement M
 joined-spec =

@@ -3,7 +3,7 @@ use native.Mathlib.Omega.{arith}
 use mathlib.Core.Bool.{false≢true}
 use borrow.Author.Tests.{not-false}
 use borrow.Author.Rules.{rules}
-use Rattle.layout.specs.AlikeLaws.{alike-empty}
+use Rattle.layout.specs.AlikeLaws.{alike_empty}
 use Rattle.layout.specs.FormLaws.{values_length}
 use Rattle.layout.proofs.stretches.known_alike.Statement.{statement}
 use Rattle.layout.proofs.stretches.known_alike.Tie as tie
@@ -24,7 +24,7 @@ returns-2 : tie.Need-returns-2
 returns-2 c =
     let s = c.before.before.before.before.before.before in
     let few = c.before.before.before.all_listed.ensures (not-false _ c.before.before.if1.false) in
-    λ e. alike-empty _ _ s.args.task _ _ (values_length _ 0 _) _ c.before.box_of.ensures few.0 few.1 _ _ _ _ s.requires.1.of-first s.requires.1.of-second (omega (arith, s.requires.0)) (c.agree.ensures e)
+    λ e. alike_empty _ _ s.args.task _ _ (values_length _ 0 _) _ c.before.box_of.ensures few.0 few.1 _ _ _ _ s.requires.1.of-first s.requires.1.of-second (omega (arith, s.requires.0)) (c.agree.ensures e)
 
 pub known-alike-spec : {M : Type 1} → statement M
 known-alike-spec =

@@ -1,6 +1,6 @@
 -- `layout::stretches::stretch_of` meets its contract, case by case. Assumes nothing.
 use borrow.Author.Rules.{rules}
-use Rattle.layout.specs.Stretches.{stretchOf}
+use Rattle.layout.specs.Stretches.{stretch_of}
 use Rattle.layout.proofs.stretches.stretch_of.Statement.{statement}
 use Rattle.layout.proofs.stretches.stretch_of.Tie as tie
 
@@ -14,15 +14,15 @@ enum-told-2 : tie.Need-enum-told-2
 enum-told-2 c = search rules
 
 returns : tie.Need-returns
-unfolding stretchOf
+unfolding stretch_of
 returns c = rw c.before.laid.given.1
 
 returns-2 : tie.Need-returns-2
-unfolding stretchOf
+unfolding stretch_of
 returns-2 c = rw c.enum_told.given.1
 
 returns-3 : tie.Need-returns-3
-unfolding stretchOf
+unfolding stretch_of
 returns-3 c = rw c.enum-told2.given.1
 
 pub stretch-of-spec : {M : Type 1} → statement M

@@ -5,15 +5,15 @@ use native.Mathlib.Nat.{sub-zero}
 use mathlib.Core.Path.{◌≡◌, sym, ◌∙◌}
 use borrow.Author.Tests.{not-true, not-false}
 use Rattle.selectors.specs.Range.{holds}
-use Rattle.selectors.specs.Words.{valuesFrom, rangesFrom}
-use Rattle.selectors.specs.HeldLaws.{holds-go, holds-stop, holds-ended}
+use Rattle.selectors.specs.Words.{values_from, ranges_from}
+use Rattle.selectors.specs.HeldLaws.{holds_go, holds_stop, holds_ended}
 use borrow.Author.Rules.{rules}
 use Rattle.selectors.proofs.words.all_hold.Statement.{statement}
 use Rattle.selectors.proofs.words.all_hold.Tie as tie
 
 abbrev invariant-loop : tie.invariant-loop
 invariant-loop words at values fields f₀ f =
-    (f ≤ fields) × (holds (rangesFrom words at 0 fields) (valuesFrom values 0 fields) ≡ holds (rangesFrom words at f (fields - f)) (valuesFrom values f (fields - f)))
+    (f ≤ fields) × (holds (ranges_from words at 0 fields) (values_from values 0 fields) ≡ holds (ranges_from words at f (fields - f)) (values_from values f (fields - f)))
 
 abbrev decreases-loop : tie.decreases-loop
 decreases-loop words at values fields f₀ f = fields - f
@@ -38,8 +38,8 @@ returns c =
     let s = c.before.before.before.before.before.before in
     let l = c.before.before.before.before.loop in
     sym (l.invariant.1
-    ∙ holds-stop s.args.words.now s.args.values.now s.args.at l.f s.args.fields (search rules) _ c.before.before.value_of_lem.ensures
-    (sym c.before.range-in.ensures ∙ not-true _ c.if1.true))
+    ∙ holds_stop s.args.words.now s.args.values.now s.args.at l.f s.args.fields (search rules) _ c.before.before.value_of_lem.ensures
+    (sym c.before.range_in.ensures ∙ not-true _ c.if1.true))
 
 add-f : tie.Need-overflow-add-f invariant-loop decreases-loop
 add-f c = search rules
@@ -53,14 +53,14 @@ loop-again c =
     let l = c.before.before.before.before.loop in (
       search rules,
       l.invariant.1
-          ∙ holds-go s.args.words.now s.args.values.now s.args.at l.f s.args.fields (search rules) _ c.before.before.value_of_lem.ensures
-          (sym c.before.range-in.ensures ∙ not-false _ c.if1.false),
+          ∙ holds_go s.args.words.now s.args.values.now s.args.at l.f s.args.fields (search rules) _ c.before.before.value_of_lem.ensures
+          (sym c.before.range_in.ensures ∙ not-false _ c.if1.false),
     )
 
 returns-2 : tie.Need-returns-2 invariant-loop decreases-loop
 returns-2 c =
     let s = c.before.before.before in
-    sym (c.before.loop.invariant.1 ∙ holds-ended s.args.words.now s.args.values.now s.args.at c.before.loop.f s.args.fields (search rules))
+    sym (c.before.loop.invariant.1 ∙ holds_ended s.args.words.now s.args.values.now s.args.at c.before.loop.f s.args.fields (search rules))
 
 pub all-hold-spec : {M : Type 1} → statement M
 all-hold-spec =

@@ -1,7 +1,7 @@
 -- `words::ends_at` meets its contract. Assumes nothing.
 use Prim.Native.Nat.{◌+◌}
 use lib.ListN.{length}
-use Rattle.selectors.specs.WordsLaws.{ends-are, value-missing}
+use Rattle.selectors.specs.WordsLaws.{ends_are, value_missing}
 use native.Mathlib.Omega.{arith}
 use mathlib.Core.Path.{sym, refl, ◌∙◌}
 use borrow.Author.Tests.{leb-true, leb-false}
@@ -28,12 +28,12 @@ value-in-requires-2 c κs =
     omega arith
 
 returns : tie.Need-returns
-returns c = ends-are _ _ _ c.before.value_in.ensures c.value-in2.ensures
+returns c = ends_are _ _ _ c.before.value_in.ensures c.value-in2.ensures
 
 returns-2 : tie.Need-returns-2
 returns-2 c =
     let a = c.before.before.before.before.args in
-    ends-are _ _ _ (value-missing a.words.now a.at (omega arith)) (value-missing a.words.now (a.at + 2) (omega arith))
+    ends_are _ _ _ (value_missing a.words.now a.at (omega arith)) (value_missing a.words.now (a.at + 2) (omega arith))
 
 value-at-requires : tie.Need-value-at-requires
 value-at-requires c κs = search rules
@@ -45,7 +45,7 @@ value-at-requires-2 : tie.Need-value-at-requires-2
 value-at-requires-2 c κs = search rules
 
 returns-3 : tie.Need-returns-3
-returns-3 c = ends-are _ _ _ c.before.value-at.ensures c.value-at2.ensures
+returns-3 c = ends_are _ _ _ c.before.value-at.ensures c.value-at2.ensures
 
 pub ends-at-spec : {M : Type 1} → statement M
 ends-at-spec =

@@ -4,7 +4,7 @@ use Prim.Native.Nat.{◌+◌}
 use mathlib.Core.Path.{sym}
 use native.Mathlib.Omega.{arith}
 use borrow.Author.Tests.{lt-leb}
-use Rattle.selectors.specs.WordsLaws.{leb-moved}
+use Rattle.selectors.specs.WordsLaws.{leb_moved}
 use borrow.Author.Rules.{rules}
 use Rattle.selectors.proofs.words.has.Statement.{statement}
 use Rattle.selectors.proofs.words.has.Tie as tie
@@ -16,7 +16,7 @@ sub-result : tie.Need-overflow-sub-result
 sub-result c = search rules
 
 returns-2 : tie.Need-returns-2
-returns-2 c = leb-moved c.before.args.at c.before.args.count _ (omega arith)
+returns-2 c = leb_moved c.before.args.at c.before.args.count _ (omega arith)
 
 pub has-spec : {M : Type 1} → statement M
 has-spec = tie.close (tie.spec returns sub-result returns-2)

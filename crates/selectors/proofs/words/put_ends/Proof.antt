@@ -1,20 +1,20 @@
 -- `words::put_ends` meets its contract. Assumes nothing.
-use Rattle.selectors.specs.Words.{wordsOfValue, wordsOfRange}
-use Rattle.selectors.specs.Ranges.{endsRange}
+use Rattle.selectors.specs.Words.{words_of_value, words_of_range}
+use Rattle.selectors.specs.Ranges.{ends_range}
 use mathlib.Core.Path.{sym, ap, ◌∙◌}
 use mathlib.Core.List.{List}
 use Prim.Native.Nat.{ℕ, ◌+◌}
 use lib.Seq.{sets}
 use Rattle.selectors.specs.Value.{number}
 use native.Mathlib.Omega.{arith}
-use Rattle.selectors.specs.StoresLaws.{sets-out}
+use Rattle.selectors.specs.StoresLaws.{sets_out}
 use Rattle.selectors.specs.WordsLaws.{range-put}
 use borrow.Author.Rules.{rules}
 use Rattle.selectors.proofs.words.put_ends.Statement.{statement}
 use Rattle.selectors.proofs.words.put_ends.Tie as tie
 
 returns : tie.Need-returns
-returns c = sym (sets-out c.before.before.args.words.now c.before.before.args.at (wordsOfRange (endsRange c.before.before.args.ends)) (omega arith))
+returns c = sym (sets_out c.before.before.args.words.now c.before.before.args.at (words_of_range (ends_range c.before.before.args.ends)) (omega arith))
 
 put-value-requires : tie.Need-put-value-requires
 put-value-requires c κs = search rules
@@ -32,7 +32,7 @@ returns-2 : tie.Need-returns-2
 returns-2 c =
     let a = c.before.before.before.before.before.before.before.before.before.before.args in
     c.before.before.put-value2.ensures
-    ∙ ap (λ (ws : List ℕ). sets ws (a.at + 2) (wordsOfValue (number a.ends.high))) c.before.before.before.before.before.before.put-value.ensures
+    ∙ ap (λ (ws : List ℕ). sets ws (a.at + 2) (words_of_value (number a.ends.high))) c.before.before.before.before.before.before.put-value.ensures
     ∙ range-put a.words.now a.at (number a.ends.low) (number a.ends.high)
 
 pub put-ends-spec : {M : Type 1} → statement M

@@ -1,19 +1,19 @@
 -- `words::put_ranges` meets its contract: five runs of stores. Assumes nothing.
-use Rattle.selectors.specs.Words.{wordsOfRange, wordsOfRanges}
-use Rattle.selectors.specs.Ranges.{endsRange, fiveRanges}
+use Rattle.selectors.specs.Words.{words_of_range, words_of_ranges}
+use Rattle.selectors.specs.Ranges.{ends_range, five_ranges}
 use Prim.Native.Nat.{ℕ, ◌+◌}
 use mathlib.Core.List.{List}
 use lib.Seq.{sets}
 use mathlib.Core.Path.{sym, ap, ◌∙◌}
 use native.Mathlib.Omega.{arith}
-use Rattle.selectors.specs.StoresLaws.{sets-out}
+use Rattle.selectors.specs.StoresLaws.{sets_out}
 use Rattle.selectors.specs.WordsLaws.{ranges-put}
 use borrow.Author.Rules.{rules}
 use Rattle.selectors.proofs.words.put_ranges.Statement.{statement}
 use Rattle.selectors.proofs.words.put_ranges.Tie as tie
 
 returns : tie.Need-returns
-returns c = sym (sets-out c.before.before.args.words.now c.before.before.args.at (wordsOfRanges (fiveRanges c.before.before.args.ranges)) (omega arith))
+returns c = sym (sets_out c.before.before.args.words.now c.before.before.args.at (words_of_ranges (five_ranges c.before.before.args.ranges)) (omega arith))
 
 put-ends-requires : tie.Need-put-ends-requires
 put-ends-requires c κs = search rules
@@ -58,13 +58,13 @@ returns-2 : tie.Need-returns-2
 returns-2 c =
     let a = c.before.before.before.before.before.before.before.before.before.before.before.before.before.before.before.before.before.before.before.before.before.before.args in
     c.before.before.put-ends5.ensures
-    ∙ ap (λ (l : List ℕ). sets l (a.at + 16) (wordsOfRange (endsRange a.ranges.remote_port)))
+    ∙ ap (λ (l : List ℕ). sets l (a.at + 16) (words_of_range (ends_range a.ranges.remote_port)))
     (c.before.before.before.before.before.before.put-ends4.ensures
-    ∙ ap (λ (l : List ℕ). sets l (a.at + 12) (wordsOfRange (endsRange a.ranges.local_port)))
+    ∙ ap (λ (l : List ℕ). sets l (a.at + 12) (words_of_range (ends_range a.ranges.local_port)))
     (c.before.before.before.before.before.before.before.before.before.before.put-ends3.ensures
-    ∙ ap (λ (l : List ℕ). sets l (a.at + 8) (wordsOfRange (endsRange a.ranges.protocol)))
+    ∙ ap (λ (l : List ℕ). sets l (a.at + 8) (words_of_range (ends_range a.ranges.protocol)))
     (c.before.before.before.before.before.before.before.before.before.before.before.before.before.before.put-ends2.ensures
-    ∙ ap (λ (l : List ℕ). sets l (a.at + 4) (wordsOfRange (endsRange a.ranges.remote))) c.before.before.before.before.before.before.before.before.before.before.before.before.before.before.before.before.before.before.put-ends.ensures)))
+    ∙ ap (λ (l : List ℕ). sets l (a.at + 4) (words_of_range (ends_range a.ranges.remote))) c.before.before.before.before.before.before.before.before.before.before.before.before.before.before.before.before.before.before.put-ends.ensures)))
     ∙ ranges-put a.words.now a.at a.ranges
 
 pub put-ranges-spec : {M : Type 1} → statement M

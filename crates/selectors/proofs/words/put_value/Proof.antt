@@ -1,17 +1,17 @@
 -- `words::put_value` meets its contract. Assumes nothing.
-use Rattle.selectors.specs.Words.{wordsOfValue}
+use Rattle.selectors.specs.Words.{words_of_value}
 use Rattle.selectors.specs.Value.{number}
 use mathlib.Core.Path.{sym}
 use native.Mathlib.Omega.{arith}
 use lib.ListN.{length-set}
-use Rattle.selectors.specs.StoresLaws.{sets-out}
-use Rattle.selectors.specs.WordsLaws.{value-put, value-put-short}
+use Rattle.selectors.specs.StoresLaws.{sets_out}
+use Rattle.selectors.specs.WordsLaws.{value-put, value-put_short}
 use borrow.Author.Rules.{rules}
 use Rattle.selectors.proofs.words.put_value.Statement.{statement}
 use Rattle.selectors.proofs.words.put_value.Tie as tie
 
 returns : tie.Need-returns
-returns c = sym (sets-out c.before.args.words.now c.before.args.at (wordsOfValue (number c.before.args.value)) (omega arith))
+returns c = sym (sets_out c.before.args.words.now c.before.args.at (words_of_value (number c.before.args.value)) (omega arith))
 
 mul_words : tie.Need-overflow-mul-words
 mul_words c = search rules
@@ -26,7 +26,7 @@ same_length : tie.Need-same-length
 same_length c = search rules
 
 returns-2 : tie.Need-returns-2
-returns-2 c = value-put-short c.before.before.args.words.now c.before.before.args.at c.before.before.args.value (search rules) (omega (arith, length-set c.before.before.args.words.now c.before.before.args.at c.before.before.args.value.upper))
+returns-2 c = value-put_short c.before.before.args.words.now c.before.before.args.at c.before.before.args.value (search rules) (omega (arith, length-set c.before.before.args.words.now c.before.before.args.at c.before.before.args.value.upper))
 
 add_words : tie.Need-overflow-add-words
 add_words c = search rules

@@ -1,6 +1,6 @@
 -- `words::range_in` meets its contract. Assumes nothing.
 use mathlib.Core.Path.{◌∙◌}
-use Rattle.selectors.specs.WordsLaws.{ends-hold}
+use Rattle.selectors.specs.WordsLaws.{ends_hold}
 use borrow.Author.Rules.{rules}
 use Rattle.selectors.proofs.words.range_in.Statement.{statement}
 use Rattle.selectors.proofs.words.range_in.Tie as tie
@@ -18,7 +18,7 @@ between-requires : tie.Need-between-requires
 between-requires c κs = search rules
 
 returns : tie.Need-returns
-returns c = c.between.ensures ∙ ends-hold _ _ _ _ _ c.before.before.value_in.ensures c.before.value-in2.ensures
+returns c = c.between.ensures ∙ ends_hold _ _ _ _ _ c.before.before.value_in.ensures c.before.value-in2.ensures
 
 pub range-in-spec : {M : Type 1} → statement M
 range-in-spec =

@@ -1,6 +1,6 @@
 -- `words::ranges_at` meets its contract: range by range. Assumes nothing.
 use native.Mathlib.Omega.{arith}
-use Rattle.selectors.specs.WordsLaws.{ends-missing}
+use Rattle.selectors.specs.WordsLaws.{ends_missing}
 use Prim.Native.Nat.{◌+◌}
 use borrow.Author.Rules.{rules}
 use Rattle.selectors.proofs.words.ranges_at.Statement.{statement}
@@ -11,11 +11,11 @@ returns c =
     let ws = c.before.before.args.words.now in
     let at = c.before.before.args.at in
     rw (
-      ← (ends-missing ws at (omega arith)),
-      ← (ends-missing ws (at + 4) (omega arith)),
-      ← (ends-missing ws (at + 8) (omega arith)),
-      ← (ends-missing ws (at + 12) (omega arith)),
-      ← (ends-missing ws (at + 16) (omega arith)),
+      ← (ends_missing ws at (omega arith)),
+      ← (ends_missing ws (at + 4) (omega arith)),
+      ← (ends_missing ws (at + 8) (omega arith)),
+      ← (ends_missing ws (at + 12) (omega arith)),
+      ← (ends_missing ws (at + 16) (omega arith)),
     )
 
 ends-at-requires : tie.Need-ends-at-requires

@@ -1,5 +1,5 @@
 -- `words::selectors_of` meets its contract. Assumes nothing.
-use Rattle.selectors.specs.Words.{selectorsOf}
+use Rattle.selectors.specs.Words.{selectors_in}
 use borrow.Author.Rules.{rules}
 use Rattle.selectors.proofs.words.selectors_of.Statement.{statement}
 use Rattle.selectors.proofs.words.selectors_of.Tie as tie
@@ -20,7 +20,7 @@ value-of-requires-5 : tie.Need-value-of-requires-5
 value-of-requires-5 c κs = search rules
 
 returns : tie.Need-returns
-unfolding selectorsOf
+unfolding selectors_in
 returns c =
     rw (← c.before.before.before.before.value_of_lem.ensures, ← c.before.before.before.value-of2.ensures, ← c.before.before.value-of3.ensures, ← c.before.value-of4.ensures, ← c.value-of5.ensures)
 

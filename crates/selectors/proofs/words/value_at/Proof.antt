@@ -1,7 +1,7 @@
 -- `words::value_at` meets its contract: two words, or one with 0 after it, or none. Assumes nothing.
 use mathlib.Core.Path.{sym, refl, ◌∙◌}
 use borrow.Author.Tests.{leb-true, leb-false}
-use Rattle.selectors.specs.WordsLaws.{value-short}
+use Rattle.selectors.specs.WordsLaws.{value_short}
 use borrow.Author.Rules.{rules}
 use Rattle.selectors.proofs.words.value_at.Statement.{statement}
 use Rattle.selectors.proofs.words.value_at.Tie as tie
@@ -19,7 +19,7 @@ word-at-requires : tie.Need-word-at-requires
 word-at-requires c κs = search rules
 
 returns-2 : tie.Need-returns-2
-returns-2 c = value-short _ _ (leb-false _ _ (sym c.before.before.has.ensures ∙ c.before.if1.false)) _ c.word_at.ensures refl
+returns-2 c = value_short _ _ (leb-false _ _ (sym c.before.before.has.ensures ∙ c.before.if1.false)) _ c.word_at.ensures refl
 
 pub value-at-spec : {M : Type 1} → statement M
 value-at-spec =

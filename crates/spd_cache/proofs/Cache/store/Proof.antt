@@ -3,7 +3,7 @@ use native.Mathlib.Nat.{mod-lt}
 use native.Mathlib.Omega.{arith}
 use mathlib.Core.Path.{◌≡◌}
 use lib.ListN.{length}
-use Rattle.spd_cache.specs.Cache.{slotCount, slotsWords}
+use Rattle.spd_cache.specs.Cache.{slot_count, slots_words}
 use borrow.Author.Rules.{rules}
 use Rattle.spd_cache.proofs.Cache.store.Statement.{statement}
 use Rattle.spd_cache.proofs.Cache.store.Tie as tie
@@ -19,8 +19,8 @@ slice-aggregate-put-row c = search rules
 
 put-row-requires : tie.Need-put-row-requires
 put-row-requires c κs =
-    let l : length c.before.before.before.before.before.args.self.words ≡ slotsWords = search rules in
-    (omega (arith, mod-lt c.before.before.before.before.before.args.self.next {m = slotCount} (omega arith)), c.before.before.before.before.before.requires)
+    let l : length c.before.before.before.before.before.args.self.words ≡ slots_words = search rules in
+    (omega (arith, mod-lt c.before.before.before.before.before.args.self.next {m = slot_count} (omega arith)), c.before.before.before.before.before.requires)
 
 larger-requires : tie.Need-larger-requires
 larger-requires c κs = search rules

@@ -3,18 +3,18 @@ use Prim.Native.Nat.{ℕ, ◌-◌, ◌≤◌}
 use native.Mathlib.Omega.{arith}
 use mathlib.Core.Path.{◌≡◌, refl, sym, subst, ◌∙◌}
 use lib.ListN.{length, take, length-set}
-use Rattle.spd_cache.specs.Lent.{cacheSize, cacheWords}
-use Rattle.spd_cache.specs.LentLaws.{copied_next, two-more}
-use Rattle.spd_cache.specs.Cache.{slotsWords}
+use Rattle.spd_cache.specs.Lent.{cache_size, cache_words}
+use Rattle.spd_cache.specs.LentLaws.{copied_next, two_more}
+use Rattle.spd_cache.specs.Cache.{slots_words}
 use borrow.Author.Rules.{rules}
 use Rattle.spd_cache.proofs.lent.put.Statement.{statement}
 use Rattle.spd_cache.proofs.lent.put.Tie as tie
 
 abbrev invariant-loop : tie.invariant-loop
-invariant-loop lent₀ cache words i₀ lent i = (i ≤ slotsWords) × ((take i lent ≡ take i words) × (length lent ≡ cacheSize))
+invariant-loop lent₀ cache words i₀ lent i = (i ≤ slots_words) × ((take i lent ≡ take i words) × (length lent ≡ cache_size))
 
 abbrev decreases-loop : tie.decreases-loop
-decreases-loop lent₀ cache words i₀ lent i = slotsWords - i
+decreases-loop lent₀ cache words i₀ lent i = slots_words - i
 
 loop-holds : tie.Need-loop-init invariant-loop decreases-loop
 loop-holds c = (search rules, (refl, c.before.requires))
@@ -58,12 +58,12 @@ same_length c =
     let l = c.before.loop in simp length-set (l.invariant.1.1 ∙ sym c.before.before.before.requires)
 
 returns : tie.Need-returns invariant-loop decreases-loop
-unfolding cacheWords
+unfolding cache_words
 returns c =
     let l = c.before.loop in
     let r = c.before.before.before.args.cache in
-    let e : l.i ≡ slotsWords = omega arith in
-    two-more l.lent r.words slotsWords r.count r.next l.invariant.1.1 (search rules) (subst (λ (k : ℕ). take k l.lent ≡ take k r.words) e l.invariant.1.0)
+    let e : l.i ≡ slots_words = omega arith in
+    two_more l.lent r.words slots_words r.count r.next l.invariant.1.1 (search rules) (subst (λ (k : ℕ). take k l.lent ≡ take k r.words) e l.invariant.1.0)
 
 pub put_spec : {M : Type 1} → statement M
 put_spec =

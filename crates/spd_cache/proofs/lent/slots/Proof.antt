@@ -3,17 +3,17 @@ use Prim.Native.Nat.{ℕ, ◌-◌, ◌≤◌}
 use native.Mathlib.Omega.{arith}
 use mathlib.Core.Path.{◌≡◌, refl, subst, ◌∙◌}
 use lib.ListN.{length, take, length-set}
-use Rattle.spd_cache.specs.LentLaws.{copied_next, copied-whole}
-use Rattle.spd_cache.specs.Cache.{slotsWords}
+use Rattle.spd_cache.specs.LentLaws.{copied_next, copied_whole}
+use Rattle.spd_cache.specs.Cache.{slots_words}
 use borrow.Author.Rules.{rules}
 use Rattle.spd_cache.proofs.lent.slots.Statement.{statement}
 use Rattle.spd_cache.proofs.lent.slots.Tie as tie
 
 abbrev invariant-loop : tie.invariant-loop
-invariant-loop lent words₀ i₀ words i = (i ≤ slotsWords) × ((take i words ≡ take i lent) × (length words ≡ slotsWords))
+invariant-loop lent words₀ i₀ words i = (i ≤ slots_words) × ((take i words ≡ take i lent) × (length words ≡ slots_words))
 
 abbrev decreases-loop : tie.decreases-loop
-decreases-loop lent words₀ i₀ words i = slotsWords - i
+decreases-loop lent words₀ i₀ words i = slots_words - i
 
 loop-holds : tie.Need-loop-init invariant-loop decreases-loop
 loop-holds c = (search rules, (refl, refl))
@@ -51,8 +51,8 @@ returns : tie.Need-returns invariant-loop decreases-loop
 returns c =
     let l = c.before.loop in
     let lent = c.before.before.args.lent.now in
-    let e : l.i ≡ slotsWords = omega arith in
-    copied-whole l.words lent slotsWords l.invariant.1.1 (subst (λ (k : ℕ). take k l.words ≡ take k lent) e l.invariant.1.0)
+    let e : l.i ≡ slots_words = omega arith in
+    copied_whole l.words lent slots_words l.invariant.1.1 (subst (λ (k : ℕ). take k l.words ≡ take k lent) e l.invariant.1.0)
 
 pub slots-spec : {M : Type 1} → statement M
 slots-spec =
