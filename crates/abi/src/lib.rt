@@ -1,4 +1,6 @@
 // Directions, pairs, actions and packets as the numbers and words by which they cross to C.
+#![tactic(auto)]
+
 ghost use Rattle.std.specs.Prelude.{◌≡◌, length};
 ghost use Rattle.packet.specs.Read.{trigger_of};
 ghost use Rattle.abi.specs.Words.{direction_of_number, pair_from, kind_of_action, number_of_action, is_found, place_found, trigger_part};

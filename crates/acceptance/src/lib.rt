@@ -1,4 +1,6 @@
 // A fresh gateway's policy, and policy acceptance (document 01; docs/RULES.md, 'The order of checks').
+#![tactic(auto)]
+
 ghost use Rattle.std.specs.Prelude.{◌≡◌, ◌+◌, ◌≤◌, length};
 ghost use Rattle.std.proofs.Math.Seq.{paste};
 ghost use Rattle.policy.specs.Words.{policy_rows, policy_words, row_limit};
@@ -13,7 +15,7 @@ use spd::{IN_ROWS, OUT_ROWS, SPD_WORDS};
 use spd_cache::Cache;
 
 // The answer to a policy file.
-#[derive(Drop)]
+#[derive(Clone, Copy)]
 pub enum Acceptance {
     // 5: the policy is accepted.
     Accepted,
@@ -24,14 +26,14 @@ pub enum Acceptance {
 }
 
 // The caches of both directions.
-#[derive(Drop)]
+#[derive(Clone, Copy)]
 pub struct Caches {
     pub outbound: Cache,
     pub inbound: Cache,
 }
 
 // The answer to a policy file, with the caches handed back.
-#[derive(Drop)]
+#[derive(Clone, Copy)]
 pub struct Settled {
     pub acceptance: Acceptance,
     pub caches: Caches,

@@ -1,4 +1,6 @@
 // Whether two ordered lists of rows give the same action throughout a box: yes, or not known; and which rows may part two values of a field.
+#![tactic(auto)]
+
 mod agreement;
 mod cuts;
 mod entries;
@@ -28,7 +30,7 @@ const BOTH: u64 = 3;
 
 // What is asked: whether the entry `row`, which is on one side only (the second, or else the first), makes a difference among the first
 // `count` entries, in the fields from `field` on. The entry `count` is the end row, which is on both sides, holds everything and discards.
-#[derive(Drop)]
+#[derive(Clone, Copy)]
 struct Asked {
     count: usize,
     field: usize,

@@ -1,4 +1,6 @@
 // Document 01's number of each answer, and what the answer carries.
+#![tactic(auto)]
+
 ghost use Rattle.std.specs.Prelude.{◌≡◌};
 ghost use Rattle.policy_text.specs.Editions.{refusal_number, refusal_carries};
 ghost use Rattle.policy_parse.specs.Parsing.{parsed_number};

@@ -1,4 +1,6 @@
 // The SPD cache of one direction as a record that is lent and changed in place (document 01): thin functions over the calls that take it by value.
+#![tactic(auto)]
+
 ghost use Rattle.std.specs.Prelude.{◌≡◌};
 ghost use Rattle.selectors.specs.Value.{combination};
 ghost use Rattle.sad.specs.Pairs.{pairs};

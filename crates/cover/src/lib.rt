@@ -1,4 +1,6 @@
 // Boxes, a range for each field: whether rows of policies cover one, what one shares with a row, whether two rows are apart.
+#![tactic(auto)]
+
 mod parts;
 mod rows;
 mod stands;
@@ -21,7 +23,7 @@ pub const MOST: usize = 2 * LIMIT;
 const DEPTH: usize = 32;
 
 // A box: for each field low and high, of two words each, as in a row. Where fields from one on count, the others are passed over.
-#[derive(Drop)]
+#[derive(Clone, Copy)]
 pub struct Bounds {
     pub words: [u64; RANGES_WORDS],
 }
@@ -29,7 +31,7 @@ pub struct Bounds {
 // How a row stands to a box: apart from it, or covering it, or neither. Then, if `cut` is a field, the upper part of the box in it begins at
 // `at`, an end of the row, and the row is in the upper part alone where `above`, else in the lower. The lower the score, the better a place
 // to split.
-#[derive(Drop)]
+#[derive(Clone, Copy)]
 struct Stand {
     apart: bool,
     covers: bool,
@@ -40,7 +42,7 @@ struct Stand {
 }
 
 // Whether something is known, and how many parts of boxes may still be looked at.
-#[derive(Drop)]
+#[derive(Clone, Copy)]
 pub struct Known {
     pub yes: bool,
     pub left: usize,

@@ -1,4 +1,6 @@
 // Policies made decorrelated (RFC 4301): the normal form of a policy, and the difference of two (document 01, 'One normal form').
+#![tactic(auto)]
+
 ghost use Rattle.std.specs.Prelude.{◌≡◌, true, ◌↔◌, ◌≤◌, length, get_or, take};
 ghost use Rattle.policy.specs.Words.{policy_rows, row_limit, policy_words};
 ghost use Rattle.policy_text.specs.Editions.{edition_sizes, rules};
@@ -15,7 +17,7 @@ use selectors::Direction;
 const FORM_ROOM: usize = LIMIT * ROOM_WORDS;
 
 // The count of a normal form's rows, or that it has more than the limit.
-#[derive(Drop)]
+#[derive(Clone, Copy)]
 pub enum Form {
     Rows(usize),
     Over,

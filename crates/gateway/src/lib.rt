@@ -1,4 +1,6 @@
 // The gateway's packet calls (document 01, 'Three doors'; docs/RULES.md, 'The three packet calls').
+#![tactic(auto)]
+
 ghost use Rattle.std.specs.Prelude.{◌≡◌};
 ghost use Rattle.packet.specs.Read.{read_trigger};
 ghost use Rattle.sad.specs.Pairs.{pairs, fits_at};
@@ -16,7 +18,7 @@ use spd_cache::Cache;
 use verdicts::Verdict;
 
 // A packet's verdict, with the cache handed back.
-#[derive(Drop)]
+#[derive(Clone, Copy)]
 pub struct Answered {
     pub verdict: Verdict,
     pub cache: Cache,

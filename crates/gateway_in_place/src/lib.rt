@@ -1,4 +1,6 @@
 // The packet calls with the cache lent in place: what `gateway` answers and does to a cache by value, with no copy of it.
+#![tactic(auto)]
+
 ghost use Rattle.std.specs.Prelude.{◌≡◌};
 ghost use Rattle.sad.specs.Pairs.{pairs};
 ghost use Rattle.policy.specs.Words.{row_limit};

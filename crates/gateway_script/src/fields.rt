@@ -5,14 +5,14 @@ ghost use Rattle.gateway_script.specs.Fields.{Within};
 use policy_text::{Number, before, find, same};
 
 // A number of 32 bits, as an SPI or an address is.
-#[derive(Drop)]
+#[derive(Clone, Copy)]
 pub enum Word {
     Is(u32),
     Bad,
 }
 
 // The count of the bytes that a text stands for, or that it stands for none or for too many.
-#[derive(Drop)]
+#[derive(Clone, Copy)]
 pub enum Decoded {
     Bytes(usize),
     Bad,

@@ -14,6 +14,8 @@
 //     from PROTOCOL SPI-IN PACKET
 //
 // Empty lines and lines that begin with `#` or `=` are passed over. Before the first `gate` line the gateway's address is 0.
+#![tactic(auto)]
+
 mod answers;
 mod fields;
 
@@ -35,7 +37,7 @@ use selectors::{Direction, Ends, Ranges, Value};
 use spd::SPD_WORDS;
 
 // What a line asks for.
-#[derive(Drop)]
+#[derive(Clone, Copy)]
 enum Operation {
     Gate,
     Add,
@@ -45,7 +47,7 @@ enum Operation {
     Nothing,
 }
 
-#[derive(Drop)]
+#[derive(Clone, Copy)]
 enum Call {
     Policy,
     Outbound,

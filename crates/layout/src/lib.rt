@@ -1,4 +1,6 @@
 // Lays policies out into their normal form, and two policies into their difference (document 01, 'One normal form').
+#![tactic(auto)]
+
 mod intervals;
 mod lists;
 mod room;
@@ -27,12 +29,12 @@ use selectors::{Direction, Value};
 pub const ROOM_WORDS: usize = (FIELDS + 1) * ROW_WORDS;
 
 // A value for each field: two words each, the upper first.
-#[derive(Drop)]
+#[derive(Clone, Copy)]
 pub struct Point {
     pub words: [u64; SELECTOR_WORDS],
 }
 
-#[derive(Drop)]
+#[derive(Clone, Copy)]
 pub enum Laid {
     // The count of the rows.
     Rows(usize),
@@ -42,7 +44,7 @@ pub enum Laid {
 }
 
 // What is laid out behind a value of a field.
-#[derive(Drop)]
+#[derive(Clone, Copy)]
 enum Stretch {
     // The count of the rows.
     Rows(usize),
@@ -53,7 +55,7 @@ enum Stretch {
 }
 
 // What a layout is asked for.
-#[derive(Drop)]
+#[derive(Clone, Copy)]
 struct Task {
     direction: Direction,
     highest: Point,
@@ -62,7 +64,7 @@ struct Task {
 
 // A field that is to be laid out behind the point's values of those before it, and how many rows of each policy hold these. The lists of
 // those rows, by their places, are lent beside it.
-#[derive(Drop)]
+#[derive(Clone, Copy)]
 struct Branch {
     field: usize,
     point: Point,
@@ -71,7 +73,7 @@ struct Branch {
 }
 
 // The rows from `last` to `next` are those of the last interval, which begins at the value `low`; those before it are done.
-#[derive(Drop)]
+#[derive(Clone, Copy)]
 struct Kept {
     last: usize,
     next: usize,

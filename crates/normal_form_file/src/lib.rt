@@ -1,4 +1,6 @@
 // Normalising: a policy file and a direction to the normal-form file (document 01, 'One normal form').
+#![tactic(auto)]
+
 ghost use Rattle.std.specs.Prelude.{◌≡◌, length};
 ghost use Rattle.policy.specs.Words.{policy_rows, row_limit};
 ghost use Rattle.policy_text.specs.Editions.{rules, rows, parse_policy};
@@ -12,7 +14,7 @@ use policy_print::Printed;
 use policy_text::{Edition, File, Refusal};
 use selectors::Direction;
 
-#[derive(Drop)]
+#[derive(Clone, Copy)]
 pub enum Normalised {
     // 5: the count of bytes printed.
     Printed(usize),

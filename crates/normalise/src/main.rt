@@ -5,6 +5,8 @@
 // The policy file is FILE, or standard input where there is none or it is `-`; it has at most 131,072 bytes. Of a file that is refused, one line on
 // standard error says document 01's number and words. The exit status is 0 whatever comes of it: a refusal is told by an empty standard output, since
 // a normal-form file has its header line at least.
+#![tactic(auto)]
+
 ghost use Rattle.std.specs.Prelude.{◌≡◌, length};
 ghost use Rattle.policy.specs.Words.{row_limit};
 ghost use Rattle.normal_form_file.specs.Normalise.{normalised, normalised_number};
@@ -22,14 +24,14 @@ use selectors::Direction;
 const FORM_BYTES: usize = 9 + LIMIT * 120;
 
 // The direction that a word asks for, or none.
-#[derive(Drop)]
+#[derive(Clone, Copy)]
 enum Asked {
     For(Direction),
     Nothing,
 }
 
 // What came of reading the input: the count of its bytes, or that it does not end in the lent room, or that a read failed.
-#[derive(Drop)]
+#[derive(Clone, Copy)]
 enum Input {
     Bytes(usize),
     TooLong,

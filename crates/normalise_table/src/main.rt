@@ -1,4 +1,6 @@
 // Writes the normal forms, for out and for in, of each policy file on standard input. A tilde parts the files.
+#![tactic(auto)]
+
 ghost use Rattle.std.specs.Prelude.{◌≤◌, length};
 
 use normal_form_file::Normalised;

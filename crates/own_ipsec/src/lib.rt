@@ -1,4 +1,6 @@
 // AH and ESP for the gateway itself (document 01, 'Coming in from outside').
+#![tactic(auto)]
+
 ghost use Rattle.std.specs.Prelude.{◌≡◌, ◌+◌, ◌-◌, ◌≤◌, cond, eqb};
 ghost use Rattle.selectors.specs.Value.{number};
 ghost use Rattle.sad.specs.Pairs.{esp_protocol, ah_protocol, pairs};
@@ -18,7 +20,7 @@ const AH_BYTES: usize = 12;
 const AH_SPI_AT: usize = 4;
 
 // What AH or ESP for the gateway is answered; any other packet is not its own.
-#[derive(Drop)]
+#[derive(Clone, Copy)]
 pub enum Own {
     Answer(Verdict),
     NotOwn,

@@ -1,4 +1,6 @@
 // What the gateway sees in an IPv4 packet: five selectors, and what the packet calls need besides (document 01; docs/RULES.md, 'What is read in a packet').
+#![tactic(auto)]
+
 ghost use Rattle.std.specs.Prelude.{◌≡◌, ◌+◌, ◌-◌, ◌^◌, ◌≤◌, ◌<◌, min, length};
 ghost use Rattle.selectors.specs.Value.{number};
 ghost use Rattle.packet.specs.Header.{two, four, total_length_at, flags_at, header_end, total_length, fragment_offset};
@@ -7,7 +9,7 @@ ghost use Rattle.packet.specs.StepsLaws.{Inside};
 
 use selectors::{ABSENT, Direction, Selectors, Value};
 
-#[derive(Drop)]
+#[derive(Clone, Copy)]
 pub struct Packet {
     pub selectors: Selectors,
     // The fragment offset, in units of eight bytes.
@@ -18,7 +20,7 @@ pub struct Packet {
     pub end: usize,
 }
 
-#[derive(Drop)]
+#[derive(Clone, Copy)]
 pub enum Reading {
     Readable(Packet),
     Unreadable,
@@ -176,7 +178,7 @@ fn local(direction: Direction, source: u64, destination: u64) -> Value
     Value { upper: 0, lower }
 }
 
-#[derive(Drop)]
+#[derive(Clone, Copy)]
 struct Ports {
     local: Value,
     remote: Value,

@@ -1,5 +1,7 @@
 // Writes what the reader sees in each packet of standard input. A line has a packet's bytes, each as two digits of
 // hex and a space, and then a semicolon and what the packet is.
+#![tactic(auto)]
+
 ghost use Rattle.std.specs.Prelude.{◌≤◌, ◌<◌, length};
 ghost use Rattle.io.specs.Counts.{IsPrefixLen};
 

@@ -1,4 +1,6 @@
 // Policies as rows of words in a flat slice, and the ordered search over them (document 01; RFC 4301's SPD; docs/RULES.md, 'The ordered search').
+#![tactic(auto)]
+
 ghost use Rattle.std.specs.Prelude.{◌≡◌, ◌+◌, ◌≤◌, length};
 ghost use Rattle.std.proofs.lemmas.List.Edits.{sets};
 ghost use Rattle.selectors.specs.Value.{combination};
@@ -13,7 +15,7 @@ use selectors::{
     AddressRange, Direction, Ends, PortRange, ProtocolRange, Ranges, Selectors, Value,
 };
 
-#[derive(Drop)]
+#[derive(Clone, Copy)]
 pub enum Action {
     Discard,
     Bypass,
@@ -22,7 +24,7 @@ pub enum Action {
 }
 
 // The direction of a row: one direction only, or both.
-#[derive(Drop)]
+#[derive(Clone, Copy)]
 pub enum RowDirection {
     Only(Direction),
     Both,
@@ -30,7 +32,7 @@ pub enum RowDirection {
 
 // A row as a record: its words, each with the meaning that it has in a flat list of words.
 #[repr(C)]
-#[derive(Drop)]
+#[derive(Clone, Copy)]
 pub struct Row {
     pub direction: u64,
     pub action: u64,
@@ -114,7 +116,7 @@ fn row_matches(
 }
 
 // The first row for the direction that holds the values.
-#[derive(Drop)]
+#[derive(Clone, Copy)]
 pub enum Found {
     Row(usize),
     Nothing,

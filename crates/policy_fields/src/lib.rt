@@ -1,4 +1,6 @@
 // The fields of a row, and the row.
+#![tactic(auto)]
+
 ghost use Rattle.std.specs.Prelude.{◌≡◌};
 ghost use Rattle.selectors.specs.Range.{address_size, protocol_size, port_size};
 ghost use Rattle.policy_text.specs.Format.{spanned, direction_field};
@@ -13,7 +15,7 @@ use selectors::{
     ProtocolRange, Value,
 };
 
-#[derive(Drop)]
+#[derive(Clone, Copy)]
 pub enum RowText {
     Row(Row),
     Bad,

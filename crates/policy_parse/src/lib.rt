@@ -1,4 +1,6 @@
 // The parser of policy files (document 01, 'The policy file').
+#![tactic(auto)]
+
 ghost use Rattle.std.specs.Prelude.{◌≡◌, ◌-◌, ◌*◌, ◌≤◌, length, get_or, take, drop};
 ghost use Rattle.std.proofs.lemmas.List.Edits.{sets};
 ghost use Rattle.policy_text.specs.Bytes.{lf, before, after};

@@ -1,4 +1,6 @@
 // The printer of policy files (document 01, 'One normal form').
+#![tactic(auto)]
+
 ghost use Rattle.std.specs.Prelude.{◌≡◌, [], ◌∷◌, map, ◌+◌, ◌≤◌, ◌<◌, ◌^◌, length};
 ghost use Rattle.selectors.specs.Value.{number};
 ghost use Rattle.selectors.specs.Ranges.{address_range, protocol_range, port_range};
@@ -16,7 +18,7 @@ use policy_text::Edition;
 use selectors::words::value_at;
 use selectors::{ABSENT, AddressRange, Direction, PortRange, ProtocolRange, Value};
 
-#[derive(Drop)]
+#[derive(Clone, Copy)]
 pub enum Printed {
     // The count of bytes written.
     Bytes(usize),

@@ -1,1 +1,2 @@
 // The mathematics of printing and parsing again is in specs/: from decimals up to the file. No code.
+#![tactic(auto)]

@@ -1,10 +1,12 @@
 // The format of policy files (document 01; docs/RULES.md, 'The policy file'): texts, cuts at a byte, and decimals; specs/ has the whole format.
+#![tactic(auto)]
+
 ghost use Rattle.std.specs.Prelude.{◌≡◌, ◌≤◌, ◌<◌, length};
 ghost use Rattle.policy_text.specs.Bytes.{index, before, after, count, are_same_bytes};
 ghost use Rattle.policy_text.specs.Decimals.{unpadded, decimal};
 
 // A number that a text stands for, or none.
-#[derive(Drop)]
+#[derive(Clone, Copy)]
 pub enum Number {
     Is(u64),
     Bad,
@@ -117,7 +119,7 @@ pub fn decimal(s: &[u8], max: u16) -> Number
 }
 
 // Why a file is no policy: document 01's 23, 24, 21 and 20.
-#[derive(Drop)]
+#[derive(Clone, Copy)]
 pub enum Refusal {
     NotHeader,
     NotEnded,
@@ -127,14 +129,14 @@ pub enum Refusal {
 }
 
 // The editions of the policy file, by their header lines.
-#[derive(Drop)]
+#[derive(Clone, Copy)]
 pub enum Edition {
     // `policy`, tab, `1`.
     One,
 }
 
 // A policy file, to a caller with room for its rows.
-#[derive(Drop)]
+#[derive(Clone, Copy)]
 pub enum File {
     // The edition and the count of rows.
     Rows(Edition, usize),
@@ -142,7 +144,7 @@ pub enum File {
 }
 
 // What parsing a policy file into a lent room answers.
-#[derive(Drop)]
+#[derive(Clone, Copy)]
 pub enum Parsed {
     // The edition and the count of rows.
     Rows(Edition, usize),

@@ -1,5 +1,7 @@
 // Parses each file that standard input names, one name to a line, and writes the name and the answer. Of a file that is accepted it
 // writes the rows again as they are printed for `out`.
+#![tactic(auto)]
+
 ghost use Rattle.std.specs.Prelude.{◌≤◌, ◌<◌, length};
 
 use policy::{LIMIT, POLICY_WORDS, ROW_WORDS};

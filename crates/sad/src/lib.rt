@@ -1,4 +1,6 @@
 // The table of SA pairs (RFC 4301's SAD): 64 places in lent words, and the calls that add, remove and find a pair (document 01; docs/RULES.md, 'SA pairs').
+#![tactic(auto)]
+
 ghost use Rattle.std.specs.Prelude.{◌≡◌, ◌&&◌, ◌+◌, ◌*◌, ◌≤◌, ◌<◌, length};
 ghost use Rattle.std.proofs.Math.Option.{none};
 ghost use Rattle.std.proofs.lemmas.List.Edits.{sets};
@@ -36,7 +38,7 @@ const FIRST_SPI: u32 = 256;
 const LAST_NUMBER: u64 = 255;
 
 // A pair to add.
-#[derive(Drop)]
+#[derive(Clone, Copy)]
 pub struct NewPair {
     pub protocol: u64,
     pub spi_in: u32,
@@ -47,7 +49,7 @@ pub struct NewPair {
 }
 
 // The answers to adding and removing a pair; `outcome_number` has document 01's numbers.
-#[derive(Drop)]
+#[derive(Clone, Copy)]
 pub enum Outcome {
     Done,
     ReservedSpi,
@@ -58,14 +60,14 @@ pub enum Outcome {
 }
 
 // A pair's protocol and outbound SPI.
-#[derive(Drop)]
+#[derive(Clone, Copy)]
 pub enum PairFound {
     Found(u64, u64),
     Nothing,
 }
 
 // A place of the table, or none.
-#[derive(Drop)]
+#[derive(Clone, Copy)]
 pub enum Place {
     At(usize),
     Nowhere,

@@ -1,4 +1,6 @@
 // Whether two policy files are the same policy in a direction: every search of one gives what it gives of the other.
+#![tactic(auto)]
+
 ghost use Rattle.std.specs.Prelude.{◌≡◌};
 ghost use Rattle.policy.specs.Words.{policy_rows, row_limit};
 ghost use Rattle.policy_text.specs.Editions.{rules, rows as rowsIn, parse_policy};
@@ -8,7 +10,7 @@ use policy::{POLICY_WORDS, ROW_WORDS};
 use policy_text::{Edition, File, Refusal};
 use selectors::Direction;
 
-#[derive(Drop)]
+#[derive(Clone, Copy)]
 pub enum Compared {
     Same,
     Different,

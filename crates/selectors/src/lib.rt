@@ -1,4 +1,6 @@
 // The selectors of a packet, and the ranges that policy rows and SA pairs have for them (RFC 4301, 4.4.1.1); words.rt has them as words.
+#![tactic(auto)]
+
 pub mod words;
 
 ghost use Rattle.std.specs.Prelude.{◌≡◌, ◌+◌, ◌-◌, ◌^◌, min, ltb, eqb};
@@ -8,7 +10,7 @@ ghost use Rattle.selectors.specs.Ranges.{from_to, address_range, protocol_range,
 
 // A value of a field: the number upper * 2^64 + lower.
 #[repr(C)]
-#[derive(Drop)]
+#[derive(Clone, Copy)]
 pub struct Value {
     pub upper: u64,
     pub lower: u64,
@@ -75,7 +77,7 @@ impl Value {
 }
 
 // Which way a packet goes (document 01's way).
-#[derive(Drop)]
+#[derive(Clone, Copy)]
 pub enum Direction {
     Out,
     In,
@@ -88,7 +90,7 @@ pub const ABSENT: Value = Value {
 };
 
 // The five values that the gateway sees in a packet.
-#[derive(Drop)]
+#[derive(Clone, Copy)]
 pub struct Selectors {
     pub local: Value,
     pub remote: Value,
@@ -98,14 +100,14 @@ pub struct Selectors {
 }
 
 // The ends of a range of any field, as words and callers give them: they may be in the wrong order, or beyond the field.
-#[derive(Drop)]
+#[derive(Clone, Copy)]
 pub struct Ends {
     pub low: Value,
     pub high: Value,
 }
 
 // A range for each field, by its ends.
-#[derive(Drop)]
+#[derive(Clone, Copy)]
 pub struct Ranges {
     pub local: Ends,
     pub remote: Ends,
@@ -159,13 +161,13 @@ fn same_ends(low: Value, high: Value, other_low: Value, other_high: Value) -> bo
 }
 
 #[repr(C)]
-#[derive(Drop)]
+#[derive(Clone, Copy)]
 pub struct AddressRange {
     pub low: Value,
     pub high: Value,
 }
 
-#[derive(Drop)]
+#[derive(Clone, Copy)]
 pub enum NewAddressRange {
     Made(AddressRange),
     Refused,
@@ -209,13 +211,13 @@ impl AddressRange {
 }
 
 #[repr(C)]
-#[derive(Drop)]
+#[derive(Clone, Copy)]
 pub struct ProtocolRange {
     pub low: Value,
     pub high: Value,
 }
 
-#[derive(Drop)]
+#[derive(Clone, Copy)]
 pub enum NewProtocolRange {
     Made(ProtocolRange),
     Refused,
@@ -259,13 +261,13 @@ impl ProtocolRange {
 }
 
 #[repr(C)]
-#[derive(Drop)]
+#[derive(Clone, Copy)]
 pub struct PortRange {
     pub low: Value,
     pub high: Value,
 }
 
-#[derive(Drop)]
+#[derive(Clone, Copy)]
 pub enum NewPortRange {
     Made(PortRange),
     Refused,

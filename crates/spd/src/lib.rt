@@ -1,4 +1,6 @@
 // What a gateway holds of its policy, in lent words: its own address, and the normal-form rows of both directions (document 01).
+#![tactic(auto)]
+
 ghost use Rattle.std.specs.Prelude.{◌≡◌, ◌≤◌, ◌<◌, min};
 ghost use Rattle.policy.specs.Words.{row_limit};
 ghost use Rattle.spd.specs.Words.{address_of, count_at, rows_at, rows_of};

@@ -1,5 +1,7 @@
 // The SPD cache of one direction: 32 slots for normal-form rows (document 01; docs/RULES.md, 'The slot rule'). Here it is a value; lent.rt has it
 // lent as words.
+#![tactic(auto)]
+
 pub mod lent;
 
 ghost use Rattle.std.specs.Prelude.{◌≡◌, ◌+◌, ◌*◌, ◌≤◌, min, max, length};
@@ -16,7 +18,7 @@ pub const SLOTS: usize = 32;
 // The words of all slots.
 pub const SLOTS_WORDS: usize = SLOTS * ROW_WORDS;
 
-#[derive(Drop)]
+#[derive(Clone, Copy)]
 pub struct Cache {
     // The slots' rows, one after the other.
     pub words: [u64; SLOTS_WORDS],
@@ -26,7 +28,7 @@ pub struct Cache {
     pub next: usize,
 }
 
-#[derive(Drop)]
+#[derive(Clone, Copy)]
 pub struct Looked {
     pub action: Action,
     pub cache: Cache,

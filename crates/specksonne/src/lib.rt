@@ -1,4 +1,6 @@
 // The library that C and Rust programs link: what it says of itself, and functions that hand numbers and lent words on to one proved call each.
+#![tactic(auto)]
+
 ghost use Rattle.std.specs.Prelude.{◌≡◌, [], map, length, replicate};
 ghost use Rattle.selectors.specs.Value.{combination};
 ghost use Rattle.selectors.specs.Words.{selectors_in};

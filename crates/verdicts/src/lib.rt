@@ -1,4 +1,6 @@
 // The answers to packets, and what an action of the policy makes of a packet (document 01, 'Three doors').
+#![tactic(auto)]
+
 ghost use Rattle.std.specs.Prelude.{◌≡◌};
 ghost use Rattle.selectors.specs.Value.{combination};
 ghost use Rattle.sad.specs.Pairs.{pairs};
@@ -8,7 +10,7 @@ use policy::Action;
 use sad::{PairFound, TABLE_WORDS};
 use selectors::Selectors;
 
-#[derive(Drop)]
+#[derive(Clone, Copy)]
 pub enum Verdict {
     // 0: pass in clear.
     Pass,
