@@ -1,4 +1,1 @@
 pub mod Spd
-pub mod StoreLaws
-pub mod SpdLaws
-pub mod StepsLaws

@@ -8,7 +8,7 @@ use Rattle.std.proofs.Math.Logic.{⊎_elim}
 use Rattle.std.proofs.Math.Dec.{eqb}
 use borrow.Author.Tests.{eqb-true}
 use Rattle.selectors.specs.Range.{contains, holds}
-use Rattle.selectors.specs.HeldLaws.{ranges-next}
+use Rattle.selectors.proofs.HeldLaws.{ranges-next}
 use Rattle.selectors.specs.Words.{field_count}
 use Rattle.normal_form.specs.Search.{Row, find}
 use Rattle.policy.specs.Words.{row_limit}

@@ -1,12 +1,1 @@
-pub mod AmongLaws
-pub mod DecidesLaws
-pub mod ExactlyLaws
-pub mod NamedLaws
 pub mod Terms
-pub mod TermsLaws
-pub mod PacketRulesLaws
-pub mod PairRulesLaws
-pub mod FileRulesLaws
-pub mod Demand1
-pub mod Demand1Complete
-pub mod Demand1Unchanged

@@ -8,7 +8,7 @@ use Rattle.std.proofs.Math.Bool.{false≢true}
 use Rattle.std.proofs.Math.Logic.{⊎_elim}
 use borrow.Author.Tests.{ltb-true, ltb-false}
 use Rattle.selectors.specs.Range.{Range, range, contains, holds}
-use Rattle.selectors.specs.RangeLaws.{both_true, contains_in, contains_below, contains_above, contains_between}
+use Rattle.selectors.proofs.RangeLaws.{both_true, contains_in, contains_below, contains_above, contains_between}
 use Rattle.selectors.specs.Value.{number}
 use Rattle.selectors.specs.Words.{field_count, range_words, ranges_words, value_at, ends_at, range_at}
 use Rattle.selectors.specs.declared.Ends.{Ends}

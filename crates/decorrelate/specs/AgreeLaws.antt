@@ -5,13 +5,13 @@ use Rattle.std.proofs.Math.Decide.{ℕ_discrete}
 use Rattle.std.proofs.lemmas.Bool.{false≢true}
 use mathlib.Core.List.{List, [], ◌∷◌, cons-ne-nil}
 use Rattle.selectors.specs.declared.Direction.{Direction}
-use Rattle.normal_form.specs.ShapeLaws.{normal_form_empty}
+use Rattle.normal_form.proofs.ShapeLaws.{normal_form_empty}
 use Rattle.policy.specs.declared.Action.{Action}
 use Rattle.policy.specs.declared.Action.TheVariants.{Discard}
 use Rattle.policy.specs.ActionLaws.{action-≟}
 use Rattle.policy.specs.Policy.{PolicyRow, ordered_search}
 use Rattle.policy.specs.Words.{action_of_word, action_word}
-use Rattle.policy.specs.WordsLaws.{word_action}
+use Rattle.policy.proofs.WordsLaws.{word_action}
 use Rattle.layout.specs.Parting.{parting-≟, agreed, parted, parting_at, difference_form}
 use Rattle.layout.specs.Laid.{sizes_of, room_for, Outcome}
 use Rattle.layout.specs.declared.Point.{Point}

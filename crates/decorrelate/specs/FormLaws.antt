@@ -8,23 +8,23 @@ use borrow.Author.Tests.{leb-true, le-leb, lt-leb}
 use Rattle.selectors.specs.Range.{Range}
 use Rattle.selectors.specs.Value.{number}
 use Rattle.selectors.specs.Words.{value_at, ranges_at}
-use Rattle.selectors.specs.WordsLaws.{AllWords}
+use Rattle.selectors.proofs.WordsLaws.{AllWords}
 use Rattle.selectors.specs.declared.Direction.{Direction}
 use Rattle.normal_form.specs.Search.{Row, row, Combination}
-use Rattle.normal_form.specs.ShapeLaws.{Fits, fits-length, normal_form_fits}
-use Rattle.normal_form.specs.MapLaws.{map_leaf}
+use Rattle.normal_form.proofs.ShapeLaws.{Fits, fits-length, normal_form_fits}
+use Rattle.normal_form.proofs.MapLaws.{map_leaf}
 use Rattle.policy.specs.declared.Action.{Action}
 use Rattle.policy.specs.declared.Action.TheVariants.{Discard}
 use Rattle.policy.specs.ActionLaws.{action-≟}
 use Rattle.policy.specs.Policy.{ordered_search, for_both_ways}
-use Rattle.policy.specs.PolicyLaws.{searching-both_ways}
-use Rattle.policy.specs.WrittenLaws.{row_exact, AllFive, read_row, written-length, written_rows}
-use Rattle.policy.specs.WordsLaws.{word_action}
+use Rattle.policy.proofs.PolicyLaws.{searching-both_ways}
+use Rattle.policy.proofs.WrittenLaws.{row_exact, AllFive, read_row, written-length, written_rows}
+use Rattle.policy.proofs.WordsLaws.{word_action}
 use Rattle.policy.specs.Words.{action_word, row_words, rows_from, policy_rows, words_with, words_of_all}
 use Rattle.policy_text.specs.declared.Edition.{Edition}
 use Rattle.policy_text.specs.declared.Edition.TheVariants.{One}
 use Rattle.policy_text.specs.Editions.{edition_sizes, Rules, rules}
-use Rattle.policy_text.specs.EditionsLaws.{five_fields}
+use Rattle.policy_text.proofs.EditionsLaws.{five_fields}
 use Rattle.layout.specs.Parting.{difference_form}
 use Rattle.layout.specs.PartingLaws.{action_leaf, difference_empty}
 use Rattle.layout.specs.Decode.{sizes_from}

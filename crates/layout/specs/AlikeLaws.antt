@@ -8,16 +8,16 @@ use Rattle.std.proofs.Common.{◌∙◌, length-append, length-take-le, get_or-t
 use Rattle.std.proofs.Math.Bool.{true, false, and_assoc}
 use mathlib.Core.List.{List, [], ◌∷◌, ◌++◌, map}
 use Rattle.selectors.specs.Range.{Range, range, contains, holds}
-use Rattle.selectors.specs.RangeLaws.{contains_in}
+use Rattle.selectors.proofs.RangeLaws.{contains_in}
 use Rattle.selectors.specs.Value.{number}
 use Rattle.selectors.specs.Words.{field_count, value_at, ranges_from, value_of}
 use Rattle.selectors.specs.declared.Direction.{Direction}
 use Rattle.normal_form.specs.Search.{Combination, find}
-use Rattle.normal_form.specs.Laws.{normal_form_ext}
-use Rattle.normal_form.specs.ShapeLaws.{normal_form_empty}
+use Rattle.normal_form.proofs.Laws.{normal_form_ext}
+use Rattle.normal_form.proofs.ShapeLaws.{normal_form_empty}
 use Rattle.policy.specs.Policy.{applies_to, matches, ordered_search}
 use Rattle.policy.specs.Words.{action_word, direction_of, row_at, rows_from, policy_rows, row_words, row_limit}
-use Rattle.policy.specs.WordsLaws.{action-word}
+use Rattle.policy.proofs.WordsLaws.{action-word}
 use Rattle.cover.specs.Boxes.{ranges_word, ranges_behind, InBox}
 use Rattle.cover.specs.RangesLaws.{ranges-length, ranges_split}
 use Rattle.agree.specs.Sides.{action_in, row_behind, range_of, those, Alike, Cutting}

@@ -5,19 +5,19 @@ use Rattle.std.specs.Prelude.{◌≡◌, Bool, true, false, ◌↔◌, List, ◌
 use Rattle.std.proofs.Math.Path.{refl, sym, ap}
 use Rattle.std.proofs.Common.{◌∙◌, eq-eqb}
 use Rattle.std.proofs.lemmas.Bool.{false≢true}
-use Rattle.selectors.specs.HeldLaws.{ranges-next, all_ranges, all_values}
+use Rattle.selectors.proofs.HeldLaws.{ranges-next, all_ranges, all_values}
 use Rattle.selectors.specs.Range.{Range, same_range}
-use Rattle.selectors.specs.RangeLaws.{same_range_true}
+use Rattle.selectors.proofs.RangeLaws.{same_range_true}
 use Rattle.selectors.specs.Value.{number, combination}
 use Rattle.selectors.specs.Words.{field_count, range_words, ends_at, range_at, ranges_from, values_from, selectors_in}
-use Rattle.selectors.specs.WordsLaws.{selectors_values}
+use Rattle.selectors.proofs.WordsLaws.{selectors_values}
 use Rattle.selectors.specs.declared.Direction.{Direction}
 use Rattle.selectors.specs.declared.Ends.{Ends}
 use Rattle.selectors.specs.declared.Selectors.{Selectors}
 use Rattle.normal_form.specs.Search.{row}
 use Rattle.policy.specs.Policy.{matches, ordered_search, match_from}
 use Rattle.policy.specs.Words.{action_word, row_at, policy_rows, row_words}
-use Rattle.policy.specs.WordsLaws.{action-word, action_found, search_match}
+use Rattle.policy.proofs.WordsLaws.{action-word, action_found, search_match}
 use Rattle.policy.specs.declared.Found.{Found}
 use Rattle.policy.specs.declared.Found.TheVariants.{Row as FoundRow, Nothing}
 use Rattle.cover.specs.Boxes.{ranges_word}

@@ -13,8 +13,8 @@ use Rattle.selectors.specs.Words.{field_count, value_words, ranges_from, value_o
 use Rattle.selectors.specs.declared.Direction.{Direction}
 use Rattle.normal_form.specs.Search.{row}
 use Rattle.normal_form.specs.NormalForm.{rows_of, runs, normal_form}
-use Rattle.normal_form.specs.RunsLaws.{runs_ext}
-use Rattle.normal_form.specs.Laws.{leaf_cases, normal_form_ext}
+use Rattle.normal_form.proofs.RunsLaws.{runs_ext}
+use Rattle.normal_form.proofs.Laws.{leaf_cases, normal_form_ext}
 use Rattle.policy.specs.Policy.{PolicyRow, applies_to, matches, ordered_search}
 use Rattle.policy.specs.Words.{action_word, direction_of, row_at, rows_from, policy_rows, row_words}
 use Rattle.cover.specs.Boxes.{ranges_word}

@@ -3,7 +3,7 @@ use Rattle.std.specs.Prelude.{ℕ, zero, suc, ◌+◌, ◌*◌, ◌≤◌, ◌<�
 use Rattle.std.proofs.Common.{arith, sym, ◌∙◌, le-leb}
 use Rattle.std.proofs.Math.Decide.{dec_le}
 use Rattle.std.proofs.lemmas.Bool.{lt-leb}
-use Rattle.selectors.specs.HeldLaws.{all_ranges}
+use Rattle.selectors.proofs.HeldLaws.{all_ranges}
 use Rattle.selectors.specs.Words.{field_count, values_from}
 use Rattle.normal_form.specs.Search.{Row}
 use Rattle.policy.specs.Words.{policy_rows}

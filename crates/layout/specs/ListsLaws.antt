@@ -16,7 +16,7 @@ use Rattle.selectors.specs.declared.Direction.{Direction}
 use Rattle.selectors.specs.declared.Value.{Value}
 use Rattle.policy.specs.Policy.{applies_to, ordered_search}
 use Rattle.policy.specs.Words.{action_word, action_of_word, direction_of, row_at, rows_from, policy_rows, row_words, row_limit}
-use Rattle.policy.specs.WordsLaws.{action-word}
+use Rattle.policy.proofs.WordsLaws.{action-word}
 use Rattle.policy.specs.declared.Action.TheVariants.{Discard}
 use Rattle.cover.specs.Boxes.{ranges_word}
 use Rattle.cover.specs.RangesLaws.{ranges-length, ranges_split, written}

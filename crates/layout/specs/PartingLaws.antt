@@ -3,12 +3,12 @@ use Rattle.std.specs.Prelude.{ℕ, ◌≡◌, List, [], map}
 use Rattle.std.proofs.Math.Decide.{ℕ_discrete}
 use Rattle.std.proofs.Common.{sym, ◌∙◌, ap, ne_eqb}
 use Rattle.selectors.specs.declared.Direction.{Direction}
-use Rattle.normal_form.specs.Laws.{normal_form_ext}
-use Rattle.normal_form.specs.MapLaws.{map_leaf, normal_form-map}
+use Rattle.normal_form.proofs.Laws.{normal_form_ext}
+use Rattle.normal_form.proofs.MapLaws.{map_leaf, normal_form-map}
 use Rattle.policy.specs.ActionLaws.{action-≟}
 use Rattle.policy.specs.Policy.{PolicyRow, ordered_search, policy_normal_form}
 use Rattle.policy.specs.Words.{action_of_word, action_word}
-use Rattle.policy.specs.WordsLaws.{word_action}
+use Rattle.policy.proofs.WordsLaws.{word_action}
 use Rattle.policy.specs.declared.Action.{Action}
 use Rattle.policy.specs.declared.Action.TheVariants.{Discard}
 use Rattle.layout.specs.Parting.{Parting, parting, parting-≟, agreed, parted, parting_at, difference_form}

@@ -9,7 +9,7 @@ use Rattle.std.proofs.Math.Bool.{true}
 use Rattle.std.proofs.Math.Logic.{inl, inr}
 use Rattle.std.proofs.lemmas.Bool.{lt-leb}
 use Rattle.selectors.specs.Range.{Range}
-use Rattle.selectors.specs.RangeLaws.{contains_in, contains_below, contains_above}
+use Rattle.selectors.proofs.RangeLaws.{contains_in, contains_below, contains_above}
 use Rattle.selectors.specs.Ranges.{ends_range}
 use Rattle.selectors.specs.Value.{number}
 use Rattle.selectors.specs.Words.{field_count, range_words, value_at, ends_at, range_at, ranges_from}

@@ -10,7 +10,7 @@ use Rattle.std.proofs.lemmas.List.{length-map}
 use Rattle.normal_form.specs.Search.{Row}
 use Rattle.normal_form.specs.SameLaws.{list-≟, row-≟}
 use Rattle.normal_form.specs.NormalForm.{interval, Intervals, start, ◌▸◌, under, rows_of, push, runs}
-use Rattle.normal_form.specs.RunsLaws.{Ends, Runs, rows_last, push_same, push_new, runs_block, runs_longest}
+use Rattle.normal_form.proofs.RunsLaws.{Ends, Runs, rows_last, push_same, push_new, runs_block, runs_longest}
 
 module _ {A : Type 0} where
   -- The rows of all intervals but the last, and the layout and the low end of the last.

@@ -2,12 +2,3 @@ pub mod Search
 pub mod SameLaws
 pub mod NormalForm
 pub mod Layout
-pub mod SearchLaws
-pub mod RunsLaws
-pub mod Laws
-pub mod LayoutLaws
-pub mod ShapeLaws
-pub mod LoopLaws
-pub mod MapLaws
-pub mod ComputeLaws
-pub mod Examples

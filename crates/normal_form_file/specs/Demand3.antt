@@ -13,14 +13,14 @@ use Rattle.selectors.specs.declared.Direction.{Direction}
 use Rattle.normal_form.specs.Search.{Row, Combination}
 use Rattle.policy.specs.declared.Action.{Action}
 use Rattle.policy.specs.Policy.{PolicyRow, ordered_search, as_row, as_policy}
-use Rattle.policy.specs.PolicyLaws.{searching-normal_form, same-normal_form, normalising_again}
+use Rattle.policy.proofs.PolicyLaws.{searching-normal_form, same-normal_form, normalising_again}
 use Rattle.policy_text.specs.declared.Edition.{Edition}
 use Rattle.policy_text.specs.Editions.{format_of, edition_sizes, Rules, rules, rows, parse_policy}
 use Rattle.policy_text.specs.Print.{policy_text}
-use Rattle.policy_round_trip.specs.EditionsLaws.{lawful}
-use Rattle.policy_round_trip.specs.FilesLaws.{AllPrintable, parse-printed, printing_injective}
-use Rattle.policy_round_trip.specs.AcceptedLaws.{parse_printable}
-use Rattle.policy_round_trip.specs.NormalFormsLaws.{normal_form_printable}
+use Rattle.policy_round_trip.proofs.EditionsLaws.{lawful}
+use Rattle.policy_round_trip.proofs.FilesLaws.{AllPrintable, parse-printed, printing_injective}
+use Rattle.policy_round_trip.proofs.AcceptedLaws.{parse_printable}
+use Rattle.policy_round_trip.proofs.NormalFormsLaws.{normal_form_printable}
 use Rattle.decorrelate.specs.Form.{form}
 use Rattle.normal_form_file.specs.declared.Normalised.{Normalised}
 use Rattle.normal_form_file.specs.declared.Normalised.TheVariants.{Printed, TooLarge, NoRoom}

@@ -10,10 +10,10 @@ use Rattle.selectors.specs.declared.Direction.{Direction}
 use Rattle.policy.specs.Words.{row_limit}
 use Rattle.policy.specs.Policy.{as_policy}
 use Rattle.policy_text.specs.Editions.{format_of, Rules, Policy, refused, rows, parse_policy}
-use Rattle.policy_round_trip.specs.AcceptedLaws.{parse_printable}
-use Rattle.policy_round_trip.specs.EditionsLaws.{lawful}
-use Rattle.policy_round_trip.specs.LengthLaws.{policy-length}
-use Rattle.policy_round_trip.specs.NormalFormsLaws.{normal_form_printable}
+use Rattle.policy_round_trip.proofs.AcceptedLaws.{parse_printable}
+use Rattle.policy_round_trip.proofs.EditionsLaws.{lawful}
+use Rattle.policy_round_trip.proofs.LengthLaws.{policy-length}
+use Rattle.policy_round_trip.proofs.NormalFormsLaws.{normal_form_printable}
 use Rattle.normal_form_file.specs.declared.Normalised.{Normalised}
 use Rattle.normal_form_file.specs.declared.Normalised.TheVariants.{Printed, Refused, TooLarge, NoRoom}
 use Rattle.decorrelate.specs.Form.{form}

@@ -5,9 +5,9 @@ use Rattle.std.proofs.Math.Bool.{true}
 use Rattle.std.proofs.Math.ListN.{get_or-append}
 use borrow.Author.Tests.{leb-true, le-leb}
 use Rattle.selectors.specs.Range.{absent, address_size, protocol_size, port_size}
-use Rattle.selectors.specs.RangeLaws.{both_true}
+use Rattle.selectors.proofs.RangeLaws.{both_true}
 use Rattle.selectors.specs.Value.{number}
-use Rattle.selectors.specs.ValueLaws.{number-lower}
+use Rattle.selectors.proofs.ValueLaws.{number-lower}
 use Rattle.selectors.specs.declared.Selectors.{Selectors}
 use Rattle.selectors.specs.declared.Direction.{Direction}
 use Rattle.selectors.specs.declared.Direction.TheVariants.{Out, In}

@@ -2,7 +2,7 @@
 use Rattle.std.specs.Prelude.{ℕ, ◌≡◌, refl, Bool, true, false, cond}
 use Rattle.std.proofs.Math.Option.{none, some}
 use Rattle.selectors.specs.Range.{range, in_field, address_size, protocol_size, port_size}
-use Rattle.selectors.specs.ValueLaws.{number-lower}
+use Rattle.selectors.proofs.ValueLaws.{number-lower}
 use Rattle.selectors.specs.Ranges.{new_address_range, new_protocol_range, new_port_range}
 use Rattle.policy_text.specs.Format.{made}
 use Rattle.policy_fields.specs.Answers.{small, address_for, protocol_for, port_for}

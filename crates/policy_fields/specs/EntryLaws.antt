@@ -4,14 +4,14 @@ use Rattle.std.proofs.Common.{sym, ap, ◌∙◌}
 use Rattle.std.proofs.Math.Option.{Option, none, some}
 use Rattle.selectors.specs.Range.{Range}
 use Rattle.selectors.specs.Value.{number}
-use Rattle.selectors.specs.ValueLaws.{number-lower}
+use Rattle.selectors.proofs.ValueLaws.{number-lower}
 use Rattle.policy.specs.declared.Action.{Action}
 use Rattle.policy.specs.declared.RowDirection.{RowDirection}
 use Rattle.policy.specs.Policy.{PolicyRow}
 use Rattle.policy.specs.declared.Row.{Row}
 use Rattle.policy_fields.specs.declared.RowText.{RowText}
 use Rattle.policy_fields.specs.declared.RowText.TheVariants.{Row as RowIs, Bad as RowBad}
-use Rattle.policy.specs.WrittenLaws.{record-length}
+use Rattle.policy.proofs.WrittenLaws.{record-length}
 use Rattle.policy_text.specs.Format.{direction_field, field, fields_from, row_made_of, row_of, onto_range, ranges_from}
 use Rattle.policy_text.specs.Edition1.{address_field, protocol_field, port_field, action_field, edition1}
 use Rattle.policy.specs.Words.{row_words, words_of_row, words_of_record}

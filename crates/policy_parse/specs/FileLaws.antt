@@ -6,7 +6,7 @@ use Rattle.std.proofs.lemmas.List.Edits.{sets-eq}
 use borrow.Author.Tests.{le-leb, lt-leb, eq-eqb, ne_eqb}
 use Rattle.policy.specs.Policy.{PolicyRow}
 use Rattle.policy.specs.Words.{row_words, words_of}
-use Rattle.policy.specs.WrittenLaws.{words-length}
+use Rattle.policy.proofs.WrittenLaws.{words-length}
 use Rattle.policy_text.specs.declared.Edition.{Edition}
 use Rattle.policy_text.specs.declared.Edition.TheVariants.{One}
 use Rattle.policy_text.specs.declared.File.{File}
@@ -17,8 +17,8 @@ use Rattle.policy_text.specs.Bytes.{lf, are_same_bytes}
 use Rattle.policy_text.specs.Format.{lines_of, Lines, all_rows, bad_row, rows_of}
 use Rattle.policy_text.specs.Edition1.{header, edition1}
 use Rattle.policy_text.specs.Editions.{format_of, edition_among, edition_of, row_count, row_lines, rules, Policy, refused, rows, policy_of, checked, parse_policy}
-use Rattle.policy_round_trip.specs.AcceptedLaws.{rows_printable}
-use Rattle.policy_round_trip.specs.WordsLaws.{all_five}
+use Rattle.policy_round_trip.proofs.AcceptedLaws.{rows_printable}
+use Rattle.policy_round_trip.proofs.WordsLaws.{all_five}
 use Rattle.policy_parse.specs.Parsing.{written, bad_of, file_of, parsed_in, parsed_room}
 use Rattle.policy_parse.specs.RowsLaws.{Read, good, bad, read, length_lines, written_rows}
 

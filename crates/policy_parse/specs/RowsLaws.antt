@@ -12,7 +12,7 @@ use Rattle.policy.specs.Words.{row_words, words_of_row, words_of, words_of_all}
 use Rattle.policy_text.specs.Bytes.{lf, before, after}
 use Rattle.policy_text.specs.Edition1.{edition1}
 use Rattle.policy_text.specs.Format.{row_of, lines_of, Lines, all_rows, bad_row, onto, rows_of}
-use Rattle.selectors.specs.StoresLaws.{sets_more}
+use Rattle.selectors.proofs.StoresLaws.{sets_more}
 use Rattle.policy_fields.specs.Answers.{entry_of, text_words}
 use Rattle.policy_fields.specs.EntryLaws.{bad_none, entry_some, line-words}
 use Rattle.policy_parse.specs.Parsing.{written, bad_of}

@@ -3,15 +3,15 @@ use Rattle.std.specs.Prelude.{ℕ, ◌*◌, ◌≤◌, ◌≡◌, List, length, 
 use Rattle.std.proofs.Common.{arith, sym, ◌∙◌, length-append, take_at}
 use Rattle.policy.specs.Policy.{PolicyRow}
 use Rattle.policy.specs.Words.{row_words, policy_rows, words_of}
-use Rattle.policy.specs.WrittenLaws.{FiveEach, words-length, words_rows}
+use Rattle.policy.proofs.WrittenLaws.{FiveEach, words-length, words_rows}
 use Rattle.policy_text.specs.declared.Edition.{Edition}
 use Rattle.policy_text.specs.declared.File.{File}
 use Rattle.policy_text.specs.declared.File.TheVariants.{Rows, Refused}
 use Rattle.policy_text.specs.Editions.{rules, refused, rows, parse_policy}
 use Rattle.policy_parse.specs.Parsing.{file_of, file_room}
 use Rattle.policy_parse.specs.FileLaws.{file_is}
-use Rattle.policy_round_trip.specs.AcceptedLaws.{parse_printable}
-use Rattle.policy_round_trip.specs.WordsLaws.{all_five}
+use Rattle.policy_round_trip.proofs.AcceptedLaws.{parse_printable}
+use Rattle.policy_round_trip.proofs.WordsLaws.{all_five}
 
 -- A file that was taken: its edition and rows, at most the limit's, and their words at the start of the room.
 pub record Taken (limit : ℕ) (s : List ℕ) (e : Edition) (n : ℕ) (room' : List ℕ) : Type 0 where

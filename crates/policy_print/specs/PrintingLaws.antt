@@ -10,7 +10,7 @@ use Rattle.std.proofs.Math.Seq.{length-sets}
 use Rattle.std.proofs.lemmas.Bool.{lt-leb}
 use Rattle.selectors.specs.Range.{Range, full, same_range, absent}
 use Rattle.selectors.specs.Value.{number}
-use Rattle.selectors.specs.ValueLaws.{number-lower}
+use Rattle.selectors.proofs.ValueLaws.{number-lower}
 use Rattle.selectors.specs.Words.{range_at}
 use Rattle.selectors.specs.declared.Value.{Value}
 use Rattle.selectors.specs.declared.Direction.{Direction}
@@ -19,13 +19,13 @@ use Rattle.policy.specs.declared.RowDirection.TheVariants.{Only}
 use Rattle.policy.specs.Policy.{PolicyRow}
 use Rattle.policy.specs.Words.{row_words, action_of_word, row_at, rows_from}
 use Rattle.policy_text.specs.Bytes.{dash}
-use Rattle.policy_text.specs.BytesLaws.{left_more, left_none}
+use Rattle.policy_text.proofs.BytesLaws.{left_more, left_none}
 use Rattle.policy_text.specs.Decimals.{last_digits, decimal_text}
 use Rattle.policy_text.specs.Format.{any}
 use Rattle.policy_text.specs.Edition1.{opaque_word, lower, dotted, address_text, protocol_text, port_text, action_text, edition1}
 use Rattle.policy_text.specs.Print.{range_text, ranges_text, direction_text, row_text, line_text, rows_text, toward}
-use Rattle.selectors.specs.StoresLaws.{sets_more}
-use Rattle.policy_text.specs.PrintLaws.{action_most, ranges_most}
+use Rattle.selectors.proofs.StoresLaws.{sets_more}
+use Rattle.policy_text.proofs.PrintLaws.{action_most, ranges_most}
 use Rattle.policy_print.specs.declared.Printed.TheVariants.{Bytes, NoRoom}
 use Rattle.policy_print.specs.Printing.{Put, printed_in, printed_room}
 

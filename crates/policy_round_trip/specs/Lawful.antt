@@ -2,7 +2,7 @@
 use Rattle.std.specs.Prelude.{ℕ, ◌≡◌, true, List, [], ◌∷◌, ◌++◌}
 use Rattle.std.proofs.Math.Option.{some}
 use Rattle.selectors.specs.Range.{Range, in_field}
-use Rattle.normal_form.specs.ShapeLaws.{Fits}
+use Rattle.normal_form.proofs.ShapeLaws.{Fits}
 use Rattle.policy.specs.declared.Action.{Action}
 use Rattle.policy.specs.declared.Action.TheVariants.{Discard}
 use Rattle.policy.specs.Policy.{PolicyRow}

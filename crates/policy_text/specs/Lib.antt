@@ -1,11 +1,6 @@
 pub mod Bytes
-pub mod BytesLaws
 pub mod Decimals
 pub mod Format
 pub mod Edition1
 pub mod Editions
-pub mod EditionsLaws
-pub mod FormatLaws
 pub mod Print
-pub mod PrintLaws
-pub mod Examples

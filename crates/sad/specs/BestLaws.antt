@@ -8,7 +8,7 @@ use mathlib.Core.List.Memᴰ
 use mathlib.Core.List.{List, [], ◌∷◌, Memᴰ}
 use Rattle.std.proofs.Math.Logic.{⊎_elim}
 use Rattle.std.proofs.Math.Option.{Option, none, some}
-use Rattle.selectors.specs.RangeLaws.{both_true}
+use Rattle.selectors.proofs.RangeLaws.{both_true}
 use Rattle.sad.specs.declared.PairFound.TheVariants.{Found, Nothing}
 use Rattle.sad.specs.Pairs.{Pair, wanted, before, best_of, found_pair, pair_for}
 use Rattle.sad.specs.PairsLaws.{best-cons}

@@ -1,9 +1,3 @@
 pub mod Sequence
 pub mod Current
-pub mod InvariantLaws
-pub mod LiveLaws
-pub mod SlotsLaws
-pub mod NextAnswerLaws
 pub mod First
-pub mod FirstLaws
-pub mod Demand2

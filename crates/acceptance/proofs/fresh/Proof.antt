@@ -1,7 +1,7 @@
 -- `acceptance::fresh` meets its contract: the normal form of no rows has none. Assumes nothing.
 use mathlib.Core.Path.{◌∙◌}
 use Rattle.policy.specs.Words.{row_limit}
-use Rattle.acceptance.specs.SpdLaws.{empty-words}
+use Rattle.acceptance.proofs.SpdLaws.{empty-words}
 use borrow.Author.Rules.{rules}
 use Rattle.acceptance.proofs.fresh.Statement.{statement}
 use Rattle.acceptance.proofs.fresh.Tie as tie

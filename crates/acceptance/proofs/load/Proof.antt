@@ -8,7 +8,7 @@ use Rattle.decorrelate.specs.FormLaws.{form_over}
 use Rattle.decorrelate.specs.RoomLaws.{Held, held}
 use Rattle.acceptance.specs.declared.Acceptance.TheVariants.{Accepted}
 use Rattle.acceptance.specs.Spd.{answer}
-use Rattle.acceptance.specs.StepsLaws.{out_too_large, in_too_large, accepted}
+use Rattle.acceptance.proofs.StepsLaws.{out_too_large, in_too_large, accepted}
 use borrow.Author.Rules.{rules}
 use Rattle.acceptance.proofs.load.Statement.{statement}
 use Rattle.acceptance.proofs.load.Tie as tie

@@ -7,7 +7,7 @@ use lib.Seq.{paste}
 use Rattle.selectors.specs.declared.Direction.TheVariants.{In}
 use Rattle.policy.specs.Words.{policy_words, row_limit}
 use Rattle.spd.specs.Words.{rows_at}
-use Rattle.acceptance.specs.StoreLaws.{held-written}
+use Rattle.acceptance.proofs.StoreLaws.{held-written}
 use borrow.Author.Rules.{rules}
 use Rattle.acceptance.proofs.write.Statement.{statement}
 use Rattle.acceptance.proofs.write.Tie as tie

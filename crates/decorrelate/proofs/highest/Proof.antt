@@ -1,7 +1,7 @@
 -- `decorrelate::highest` meets its contract: there is one edition. Assumes nothing.
 use mathlib.Core.Path.{refl, sym, ap, ◌∙◌}
 use Rattle.policy_text.specs.Editions.{edition_sizes}
-use Rattle.policy_text.specs.EditionsLaws.{only_one}
+use Rattle.policy_text.proofs.EditionsLaws.{only_one}
 use Rattle.decorrelate.specs.FormLaws.{ipv4_highest}
 use Rattle.decorrelate.proofs.highest.Statement.{statement}
 use Rattle.decorrelate.proofs.highest.Tie as tie

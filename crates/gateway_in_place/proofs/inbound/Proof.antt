@@ -4,7 +4,7 @@ use Rattle.selectors.specs.declared.Direction.TheVariants.{In}
 use Rattle.packet.specs.Read.{read_packet}
 use Rattle.packet.specs.declared.Reading.TheVariants.{Readable}
 use Rattle.spd_cache.specs.Lent.{cache_from, cache_words}
-use Rattle.spd_cache.specs.LentLaws.{cache_kept}
+use Rattle.spd_cache.proofs.LentLaws.{cache_kept}
 use Rattle.verdicts.specs.Calls.{inbound_by}
 use Rattle.own_ipsec.specs.OwnLaws.{own-answered, not_own}
 use Rattle.gateway.specs.Cached.{inbound_cached}

@@ -1,6 +1,6 @@
 -- `gateway_in_place::outbound` meets its contract: a packet that is not readable, or the answer of the search. Assumes nothing.
 use mathlib.Core.Path.{refl, sym, ◌∙◌}
-use Rattle.spd_cache.specs.LentLaws.{cache_kept}
+use Rattle.spd_cache.proofs.LentLaws.{cache_kept}
 use Rattle.verdicts.specs.Calls.{outbound_by}
 use Rattle.gateway.specs.Cached.{outbound_cached}
 use borrow.Author.Rules.{rules}

@@ -10,7 +10,7 @@ use borrow.Rule.Slice.PartMut.{put_mid, same_len_mid}
 use borrow.Author.Rules.{rules}
 use borrow.Fn.Kinds.{In}
 use borrow.Fn.PlainCycle.{Measures, is, falls, and}
-use Rattle.selectors.specs.ValueLaws.{Words, number_bound}
+use Rattle.selectors.proofs.ValueLaws.{Words, number_bound}
 use Rattle.selectors.specs.Value.{number}
 use Rattle.selectors.proofs.Value.less.Reads as less-reads
 use Rattle.selectors.proofs.Value.next.Reads as next-reads

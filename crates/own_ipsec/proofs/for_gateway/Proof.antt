@@ -4,7 +4,7 @@ use mathlib.Core.Bool.{true}
 use lib.Dec.{eqb}
 use borrow.Author.Tests.{not-true, not-false}
 use Rattle.selectors.specs.Value.{number}
-use Rattle.selectors.specs.ValueLaws.{number-lower}
+use Rattle.selectors.proofs.ValueLaws.{number-lower}
 use Rattle.verdicts.specs.Calls.{for_gateway}
 use borrow.Author.Rules.{rules}
 use Rattle.own_ipsec.proofs.for_gateway.Statement.{statement}

@@ -2,7 +2,7 @@
 use mathlib.Core.Path.{refl, ap, ◌∙◌}
 use lib.Dec.{eqb}
 use Rattle.selectors.specs.Value.{number}
-use Rattle.selectors.specs.ValueLaws.{number-lower}
+use Rattle.selectors.proofs.ValueLaws.{number-lower}
 use borrow.Author.Rules.{rules}
 use Rattle.own_ipsec.proofs.has_protocol.Statement.{statement}
 use Rattle.own_ipsec.proofs.has_protocol.Tie as tie

@@ -5,7 +5,7 @@ use mathlib.Core.Path.{◌≡◌, sym, ap, ◌∙◌}
 use mathlib.Core.Bool.{true}
 use borrow.Author.Tests.{not-true, not-false}
 use Rattle.selectors.specs.Value.{number}
-use Rattle.selectors.specs.ValueLaws.{number-lower}
+use Rattle.selectors.proofs.ValueLaws.{number-lower}
 use Rattle.packet.specs.Read.{is_icmp, error_type}
 use Rattle.packet.specs.StepsLaws.{icmp_other, icmp_by_type, error_above, number_large}
 use borrow.Author.Rules.{rules}

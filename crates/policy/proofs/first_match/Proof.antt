@@ -6,9 +6,9 @@ use mathlib.Core.Path.{◌≡◌, sym, ap, ◌∙◌}
 use Rattle.selectors.specs.Value.{combination}
 use Rattle.policy.specs.Policy.{match_from}
 use Rattle.selectors.specs.Words.{values_of}
-use Rattle.selectors.specs.WordsLaws.{selector_values}
+use Rattle.selectors.proofs.WordsLaws.{selector_values}
 use Rattle.policy.specs.Words.{rows_from, policy_rows}
-use Rattle.policy.specs.WordsLaws.{match-found, match_passed, match_ended}
+use Rattle.policy.proofs.WordsLaws.{match-found, match_passed, match_ended}
 use borrow.Author.Rules.{rules}
 use Rattle.policy.proofs.first_match.Statement.{statement}
 use Rattle.policy.proofs.first_match.Tie as tie

@@ -3,7 +3,7 @@ use Prim.Native.Nat.{suc, ◌+◌}
 use native.Mathlib.Omega.{arith}
 use native.Mathlib.Numerals.{add-one}
 use mathlib.Core.Path.{◌≡◌, sym, ◌∙◌}
-use Rattle.selectors.specs.StoresLaws.{sets_out}
+use Rattle.selectors.proofs.StoresLaws.{sets_out}
 use Rattle.policy.specs.Words.{words_of_record}
 use borrow.Author.Rules.{rules}
 use Rattle.policy.proofs.put_row.Statement.{statement}

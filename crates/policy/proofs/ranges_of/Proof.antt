@@ -1,5 +1,5 @@
 -- `policy::ranges_of` meets its contract: end by end. Assumes nothing.
-use Rattle.selectors.specs.WordsLaws.{ends_are, ranges_are}
+use Rattle.selectors.proofs.WordsLaws.{ends_are, ranges_are}
 use Rattle.policy.specs.Words.{ends_of_record}
 use borrow.Author.Rules.{rules}
 use Rattle.policy.proofs.ranges_of.Statement.{statement}

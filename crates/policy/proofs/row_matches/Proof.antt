@@ -5,7 +5,7 @@ use Rattle.policy.specs.Policy.{matches}
 use Rattle.policy.specs.Words.{row_at}
 use Prim.Native.Nat.{◌+◌}
 use borrow.Author.Rules.{rules}
-use Rattle.selectors.specs.HeldLaws.{held_five}
+use Rattle.selectors.proofs.HeldLaws.{held_five}
 use Rattle.policy.proofs.row_matches.Statement.{statement}
 use Rattle.policy.proofs.row_matches.Tie as tie
 

@@ -6,7 +6,7 @@ use borrow.Author.Rules.{rules}
 use lib.ListN.{length}
 use Rattle.selectors.specs.Value.{combination}
 use Rattle.policy.specs.Words.{row_words}
-use Rattle.policy.specs.WordsLaws.{action_found, search_match, match_bound}
+use Rattle.policy.proofs.WordsLaws.{action_found, search_match, match_bound}
 use Rattle.policy.proofs.search.Statement.{statement}
 use Rattle.policy.proofs.search.Tie as tie
 

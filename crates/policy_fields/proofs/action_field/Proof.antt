@@ -3,7 +3,7 @@ use mathlib.Core.Path.{◌≡◌, sym, ◌∙◌}
 use mathlib.Core.Bool.{true, false}
 use Rattle.policy_text.specs.Bytes.{dash, before, are_same_bytes}
 use Rattle.policy_text.specs.Edition1.{bypass_word, discard_word, protect_word, action_field}
-use Rattle.policy_text.specs.FormatLaws.{decimal_at_most}
+use Rattle.policy_text.proofs.FormatLaws.{decimal_at_most}
 use borrow.Author.Rules.{rules}
 use Rattle.policy_fields.proofs.action_field.Statement.{statement}
 use Rattle.policy_fields.proofs.action_field.Tie as tie

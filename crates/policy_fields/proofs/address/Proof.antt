@@ -9,7 +9,7 @@ use Rattle.policy_text.specs.declared.Number.TheVariants.{Is}
 use Rattle.policy_text.specs.Bytes.{dot, before, after}
 use Rattle.policy_text.specs.Decimals.{decimal}
 use Rattle.policy_text.specs.Edition1.{address}
-use Rattle.policy_text.specs.FormatLaws.{decimal_bound}
+use Rattle.policy_text.proofs.FormatLaws.{decimal_bound}
 use borrow.Author.Rules.{rules}
 use Rattle.policy_fields.proofs.address.Statement.{statement}
 use Rattle.policy_fields.proofs.address.Tie as tie

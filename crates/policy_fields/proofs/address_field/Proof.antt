@@ -2,10 +2,10 @@
 use mathlib.Core.Path.{◌≡◌, sym, ◌∙◌}
 use mathlib.Core.Bool.{false}
 use Rattle.policy_text.specs.Bytes.{dash, slash, are_same_bytes, has}
-use Rattle.policy_text.specs.BytesLaws.{has_there, has_not}
+use Rattle.policy_text.proofs.BytesLaws.{has_there, has_not}
 use Rattle.policy_text.specs.Format.{any}
 use Rattle.policy_text.specs.Edition1.{address_field}
-use Rattle.policy_text.specs.FormatLaws.{address_at_most}
+use Rattle.policy_text.proofs.FormatLaws.{address_at_most}
 use borrow.Author.Rules.{rules}
 use Rattle.policy_fields.proofs.address_field.Statement.{statement}
 use Rattle.policy_fields.proofs.address_field.Tie as tie

@@ -1,5 +1,5 @@
 -- `policy_fields::is_mask` meets its contract. The loop's invariant: power is 2^zeros, and no mask with more zeros was met. Assumes nothing.
-use Rattle.policy_text.specs.FormatLaws.{power_half, power_fits, mask-found, mask_next, mask_none}
+use Rattle.policy_text.proofs.FormatLaws.{power_half, power_fits, mask-found, mask_next, mask_none}
 use mathlib.Core.Path.{refl, ◌≡◌, sym, ◌∙◌}
 use Prim.Native.Nat.{◌≤◌, ◌^◌}
 use Rattle.policy_text.specs.Edition1.{is_mask, mask_below}

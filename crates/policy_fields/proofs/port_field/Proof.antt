@@ -2,7 +2,7 @@
 use mathlib.Core.Path.{◌≡◌, sym, ◌∙◌}
 use mathlib.Core.Bool.{false}
 use Rattle.policy_text.specs.Bytes.{dash, are_same_bytes}
-use Rattle.policy_text.specs.BytesLaws.{has_there, has_not}
+use Rattle.policy_text.proofs.BytesLaws.{has_there, has_not}
 use Rattle.policy_text.specs.Format.{any}
 use Rattle.policy_text.specs.Edition1.{port_field}
 use borrow.Author.Rules.{rules}

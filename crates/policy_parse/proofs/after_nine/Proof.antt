@@ -1,7 +1,7 @@
 -- `policy_parse::after_nine` meets its contract. Assumes nothing.
 use mathlib.Core.Path.{sym, ◌∙◌}
 use lib.ListN.{length}
-use Rattle.policy_text.specs.BytesLaws.{part_rest, left_none}
+use Rattle.policy_text.proofs.BytesLaws.{part_rest, left_none}
 use borrow.Author.Rules.{rules}
 use Rattle.policy_parse.proofs.after_nine.Statement.{statement}
 use Rattle.policy_parse.proofs.after_nine.Tie as tie

@@ -1,6 +1,6 @@
 -- `policy_parse::line_at` meets its contract. Assumes nothing.
 use mathlib.Core.Path.{◌∙◌}
-use Rattle.policy_text.specs.BytesLaws.{part_rest}
+use Rattle.policy_text.proofs.BytesLaws.{part_rest}
 use borrow.Author.Rules.{rules}
 use Rattle.policy_parse.proofs.line_at.Statement.{statement}
 use Rattle.policy_parse.proofs.line_at.Tie as tie

@@ -5,7 +5,7 @@ use mathlib.Core.Path.{sym, ◌∙◌}
 use lib.ListN.{length, drop, length-drop}
 use lib.Seq.{drop-drop}
 use Rattle.policy_text.specs.Bytes.{lf, index, after}
-use Rattle.policy_text.specs.BytesLaws.{part_rest, left_none}
+use Rattle.policy_text.proofs.BytesLaws.{part_rest, left_none}
 use borrow.Author.Rules.{rules}
 use Rattle.policy_parse.proofs.next_line.Statement.{statement}
 use Rattle.policy_parse.proofs.next_line.Tie as tie

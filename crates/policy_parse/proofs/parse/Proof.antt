@@ -8,7 +8,7 @@ use Rattle.policy_text.specs.declared.Edition.TheVariants.{One}
 use Rattle.policy_text.specs.declared.File.{File}
 use Rattle.policy_text.specs.declared.File.TheVariants.{Rows, Refused}
 use Rattle.policy_text.specs.declared.Parsed.TheVariants.{Rows as RoomRows}
-use Rattle.policy_text.specs.EditionsLaws.{only_one}
+use Rattle.policy_text.proofs.EditionsLaws.{only_one}
 use Rattle.policy_text.specs.Editions.{rules, Policy, rows, parse_policy}
 use Rattle.policy_parse.specs.FileLaws.{FileIs, file_is, parsed_fits, parsed_short}
 use borrow.Author.Rules.{rules}

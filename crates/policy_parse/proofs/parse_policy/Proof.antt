@@ -7,9 +7,9 @@ use lib.ListN.{length}
 use Rattle.policy.specs.Words.{row_limit}
 use Rattle.policy_text.specs.declared.File.{File}
 use Rattle.policy_text.specs.declared.File.TheVariants.{Rows, Refused}
-use Rattle.policy_text.specs.EditionsLaws.{only_one}
+use Rattle.policy_text.proofs.EditionsLaws.{only_one}
 use Rattle.policy_text.specs.Editions.{rules, rows, parse_policy}
-use Rattle.policy_round_trip.specs.AcceptedLaws.{parse_printable}
+use Rattle.policy_round_trip.proofs.AcceptedLaws.{parse_printable}
 use Rattle.policy_parse.specs.FileLaws.{FileIs, file_is, rows_written}
 use borrow.Author.Rules.{rules}
 use Rattle.policy_parse.proofs.parse_policy.Statement.{statement}

@@ -2,7 +2,7 @@
 use mathlib.Core.Path.{sym, subst}
 use Rattle.policy.specs.Words.{policy_rows}
 use Rattle.policy_text.specs.declared.Edition.{Edition}
-use Rattle.policy_text.specs.EditionsLaws.{only_one}
+use Rattle.policy_text.proofs.EditionsLaws.{only_one}
 use Rattle.policy_print.specs.Printing.{Put, printed}
 use borrow.Author.Rules.{rules}
 use Rattle.policy_print.proofs.put_file.Statement.{statement}

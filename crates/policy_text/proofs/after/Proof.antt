@@ -2,7 +2,7 @@
 use Prim.Native.Nat.{◌+◌}
 use mathlib.Core.Path.{sym, ◌∙◌}
 use Rattle.policy_text.specs.Bytes.{index, after}
-use Rattle.policy_text.specs.BytesLaws.{part_rest, left_none}
+use Rattle.policy_text.proofs.BytesLaws.{part_rest, left_none}
 use borrow.Author.Rules.{rules}
 use Rattle.policy_text.proofs.after.Statement.{statement}
 use Rattle.policy_text.proofs.after.Tie as tie

@@ -5,7 +5,7 @@ use mathlib.Core.Path.{◌≡◌}
 use mathlib.Core.Logic.{⊎_elim}
 use lib.ListN.{length, drop}
 use Rattle.policy_text.specs.Bytes.{count}
-use Rattle.policy_text.specs.BytesLaws.{count-here, count_next, count_none}
+use Rattle.policy_text.proofs.BytesLaws.{count-here, count_next, count_none}
 use borrow.Author.Rules.{rules}
 use Rattle.policy_text.proofs.count.Statement.{statement}
 use Rattle.policy_text.proofs.count.Tie as tie

@@ -5,7 +5,7 @@ use native.Mathlib.Omega.{arith}
 use mathlib.Core.Path.{◌≡◌, sym, ◌∙◌}
 use borrow.Author.Tests.{not-true, not-false}
 use Rattle.policy_text.specs.Decimals.{digits, value}
-use Rattle.policy_text.specs.FormatLaws.{digits-next, digits_below, digits_above, digits_ended, value-next, value_ended, value_grows, decimal-padded, decimal_other, decimal_above, decimal_is}
+use Rattle.policy_text.proofs.FormatLaws.{digits-next, digits_below, digits_above, digits_ended, value-next, value_ended, value_grows, decimal-padded, decimal_other, decimal_above, decimal_is}
 use borrow.Author.Rules.{rules}
 use Rattle.policy_text.proofs.decimal.Statement.{statement}
 use Rattle.policy_text.proofs.decimal.Tie as tie

@@ -4,7 +4,7 @@ use native.Mathlib.Omega.{arith}
 use mathlib.Core.Path.{◌≡◌}
 use lib.ListN.{length, drop}
 use Rattle.policy_text.specs.Bytes.{index}
-use Rattle.policy_text.specs.BytesLaws.{index-here, index-next, index_none}
+use Rattle.policy_text.proofs.BytesLaws.{index-here, index-next, index_none}
 use borrow.Author.Rules.{rules}
 use Rattle.policy_text.proofs.find.Statement.{statement}
 use Rattle.policy_text.proofs.find.Tie as tie

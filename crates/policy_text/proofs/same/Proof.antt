@@ -3,7 +3,7 @@ use Prim.Native.Nat.{◌≤◌, ◌-◌}
 use mathlib.Core.Path.{◌≡◌, sym, ◌∙◌}
 use lib.ListN.{length, drop}
 use Rattle.policy_text.specs.Bytes.{are_same_bytes}
-use Rattle.policy_text.specs.BytesLaws.{same_next, same_differ, same_longer, same_ended}
+use Rattle.policy_text.proofs.BytesLaws.{same_next, same_differ, same_longer, same_ended}
 use borrow.Author.Rules.{rules}
 use Rattle.policy_text.proofs.same.Statement.{statement}
 use Rattle.policy_text.proofs.same.Tie as tie

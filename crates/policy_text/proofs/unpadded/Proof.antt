@@ -1,5 +1,5 @@
 -- `policy_text::unpadded` meets its contract: by the length. Assumes nothing.
-use Rattle.policy_text.specs.FormatLaws.{unpadded_empty, unpadded_one, unpadded_more}
+use Rattle.policy_text.proofs.FormatLaws.{unpadded_empty, unpadded_one, unpadded_more}
 use mathlib.Core.Path.{sym}
 use borrow.Author.Rules.{rules}
 use Rattle.policy_text.proofs.unpadded.Statement.{statement}

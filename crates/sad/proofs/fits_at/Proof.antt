@@ -3,7 +3,7 @@ use borrow.Author.Tests.{lt-ltb, le-ltb}
 use mathlib.Core.Path.{ap, ◌∙◌}
 use native.Mathlib.Omega.{arith}
 use Rattle.selectors.specs.Words.{values_of}
-use Rattle.selectors.specs.WordsLaws.{selector_values}
+use Rattle.selectors.proofs.WordsLaws.{selector_values}
 use Rattle.sad.specs.Pairs.{place_count, fits_at, pair_at}
 use borrow.Author.Rules.{rules}
 use Rattle.sad.proofs.fits_at.Statement.{statement}

@@ -1,7 +1,7 @@
 -- `sad::holds_at` meets its contract: the words of the place are there. Assumes nothing.
 use Prim.Native.Nat.{◌+◌, ◌*◌}
 use mathlib.Core.Path.{◌∙◌}
-use Rattle.selectors.specs.HeldLaws.{held_five}
+use Rattle.selectors.proofs.HeldLaws.{held_five}
 use Rattle.sad.specs.Pairs.{place_words, head_words}
 use borrow.Author.Rules.{rules}
 use Rattle.sad.proofs.holds_at.Statement.{statement}

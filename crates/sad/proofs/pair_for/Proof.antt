@@ -2,7 +2,7 @@
 use mathlib.Core.Path.{◌≡◌, sym, ap, ◌∙◌}
 use Rattle.selectors.specs.Value.{combination}
 use Rattle.selectors.specs.Words.{values_of}
-use Rattle.selectors.specs.WordsLaws.{selector_values}
+use Rattle.selectors.proofs.WordsLaws.{selector_values}
 use Rattle.sad.specs.PairsLaws.{pair_found, pair_nothing}
 use borrow.Author.Rules.{rules}
 use Rattle.sad.proofs.pair_for.Statement.{statement}

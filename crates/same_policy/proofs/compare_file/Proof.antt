@@ -9,7 +9,7 @@ use Rattle.policy_text.specs.declared.File.{File}
 use Rattle.policy_text.specs.declared.File.TheVariants.{Rows, Refused}
 use Rattle.policy_parse.specs.TakenLaws.{Taken, Told, told}
 use Rattle.policy_text.specs.Editions.{rules, Policy, rows}
-use Rattle.policy_text.specs.EditionsLaws.{only_one}
+use Rattle.policy_text.proofs.EditionsLaws.{only_one}
 use Rattle.policy_text.specs.declared.Edition.{Edition}
 use Rattle.same_policy.specs.Same.{compared}
 use borrow.Author.Rules.{rules}

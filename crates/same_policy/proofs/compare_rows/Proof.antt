@@ -6,7 +6,7 @@ use Rattle.policy.specs.Words.{policy_rows}
 use Rattle.policy_text.specs.Editions.{rules, rows}
 use Rattle.same_policy.specs.declared.Compared.TheVariants.{Same, Different}
 use Rattle.same_policy.specs.Same.{compared}
-use Rattle.same_policy.specs.SameLaws.{by_agreement}
+use Rattle.same_policy.proofs.SameLaws.{by_agreement}
 use Rattle.same_policy.proofs.compare_rows.Statement.{statement}
 use Rattle.same_policy.proofs.compare_rows.Tie as tie
 

@@ -2,8 +2,8 @@
 use mathlib.Core.Path.{sym, ap, ◌∙◌}
 use mathlib.Core.Bool.{not}
 use borrow.Author.Tests.{ltb-true, ltb-false}
-use Rattle.selectors.specs.RangeLaws.{contains_below, contains_not_below}
-use Rattle.selectors.specs.BetweenLaws.{same_upper, other_upper}
+use Rattle.selectors.proofs.RangeLaws.{contains_below, contains_not_below}
+use Rattle.selectors.proofs.BetweenLaws.{same_upper, other_upper}
 use borrow.Author.Rules.{rules}
 use Rattle.selectors.proofs.between.Statement.{statement}
 use Rattle.selectors.proofs.between.Tie as tie

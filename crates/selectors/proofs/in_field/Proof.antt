@@ -3,7 +3,7 @@ use mathlib.Core.Path.{sym, ap, ◌∙◌}
 use mathlib.Core.Bool.{not}
 use borrow.Author.Rules.{rules}
 use borrow.Author.Tests.{ltb-true, ltb-false}
-use Rattle.selectors.specs.RangeLaws.{in_field_reversed, in_field_ordered}
+use Rattle.selectors.proofs.RangeLaws.{in_field_reversed, in_field_ordered}
 use Rattle.selectors.proofs.in_field.Statement.{statement}
 use Rattle.selectors.proofs.in_field.Tie as tie
 

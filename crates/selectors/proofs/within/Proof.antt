@@ -2,7 +2,7 @@
 use mathlib.Core.Path.{sym}
 use borrow.Author.Tests.{le-leb}
 use Rattle.selectors.specs.Range.{range, contains}
-use Rattle.selectors.specs.RangeLaws.{contains_below}
+use Rattle.selectors.proofs.RangeLaws.{contains_below}
 use borrow.Author.Rules.{rules}
 use Rattle.selectors.proofs.within.Statement.{statement}
 use Rattle.selectors.proofs.within.Tie as tie

@@ -4,7 +4,7 @@ use native.Mathlib.Omega.{arith}
 use mathlib.Core.Path.{◌≡◌, refl, ◌∙◌}
 use lib.ListN.{length, drop, length-set}
 use lib.Seq.{paste, paste-zero}
-use Rattle.spd_cache.specs.CacheLaws.{copy-next}
+use Rattle.spd_cache.proofs.CacheLaws.{copy-next}
 use Rattle.policy.specs.Words.{row_words}
 use borrow.Author.Rules.{rules}
 use Rattle.spd_cache.proofs.put_row.Statement.{statement}

@@ -6,7 +6,7 @@ use mathlib.Core.Path.{sym, ◌∙◌}
 use lib.ListN.{length}
 use Rattle.selectors.specs.Value.{combination}
 use Rattle.policy.specs.Words.{row_words}
-use Rattle.policy.specs.WordsLaws.{match_bound}
+use Rattle.policy.proofs.WordsLaws.{match_bound}
 use Rattle.layout.specs.DecodeLaws.{point_values, action-found, action_missing}
 use Rattle.layout.specs.ListsLaws.{lists_within, lists-found, lists_none}
 use borrow.Author.Rules.{rules}

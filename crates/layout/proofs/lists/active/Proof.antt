@@ -2,7 +2,7 @@
 use mathlib.Core.Path.{sym, ◌∙◌}
 use borrow.Author.Tests.{not-true, not-false}
 use borrow.Author.Rules.{rules}
-use Rattle.selectors.specs.HeldLaws.{held_there}
+use Rattle.selectors.proofs.HeldLaws.{held_there}
 use Rattle.cover.specs.Boxes.{ranges_word}
 use Rattle.layout.specs.Decode.{active}
 use Rattle.layout.proofs.lists.active.Statement.{statement}

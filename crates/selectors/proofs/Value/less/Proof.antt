@@ -1,6 +1,6 @@
 -- `selectors::Value::less` meets its contract: the upper words decide, and the lower ones where those are the same. Assumes nothing.
 use borrow.Author.Rules.{rules}
-use Rattle.selectors.specs.ValueLaws.{less-lower, less_upper}
+use Rattle.selectors.proofs.ValueLaws.{less-lower, less_upper}
 use Rattle.selectors.proofs.Value.less.Statement.{statement}
 use Rattle.selectors.proofs.Value.less.Tie as tie
 

@@ -1,6 +1,6 @@
 -- `selectors::Value::next` meets its contract: one more in the lower word, in the upper word, or no more. Assumes nothing.
 use borrow.Author.Rules.{rules}
-use Rattle.selectors.specs.ValueLaws.{next-lower, next_upper, next_last}
+use Rattle.selectors.proofs.ValueLaws.{next-lower, next_upper, next_last}
 use Rattle.selectors.proofs.Value.next.Statement.{statement}
 use Rattle.selectors.proofs.Value.next.Tie as tie
 

@@ -1,6 +1,6 @@
 -- `selectors::Value::previous` meets its contract: one less in the lower word, in the upper word, or no less. Assumes nothing.
 use borrow.Author.Rules.{rules}
-use Rattle.selectors.specs.ValueLaws.{previous-lower, previous_upper, previous_first}
+use Rattle.selectors.proofs.ValueLaws.{previous-lower, previous_upper, previous_first}
 use Rattle.selectors.proofs.Value.previous.Statement.{statement}
 use Rattle.selectors.proofs.Value.previous.Tie as tie
 

@@ -1,7 +1,7 @@
 -- `selectors::Value::same` meets its contract: two values are the same where both words are. Assumes nothing.
 use mathlib.Core.Path.{sym}
 use borrow.Author.Rules.{rules}
-use Rattle.selectors.specs.ValueLaws.{same-lower, same_upper}
+use Rattle.selectors.proofs.ValueLaws.{same-lower, same_upper}
 use Rattle.selectors.proofs.Value.same.Statement.{statement}
 use Rattle.selectors.proofs.Value.same.Tie as tie
 

@@ -6,7 +6,7 @@ use mathlib.Core.Path.{◌≡◌, sym, ◌∙◌}
 use borrow.Author.Tests.{not-true, not-false}
 use Rattle.selectors.specs.Range.{holds}
 use Rattle.selectors.specs.Words.{values_from, ranges_from}
-use Rattle.selectors.specs.HeldLaws.{holds_go, holds_stop, holds_ended}
+use Rattle.selectors.proofs.HeldLaws.{holds_go, holds_stop, holds_ended}
 use borrow.Author.Rules.{rules}
 use Rattle.selectors.proofs.words.all_hold.Statement.{statement}
 use Rattle.selectors.proofs.words.all_hold.Tie as tie

@@ -1,7 +1,7 @@
 -- `words::ends_at` meets its contract. Assumes nothing.
 use Prim.Native.Nat.{◌+◌}
 use lib.ListN.{length}
-use Rattle.selectors.specs.WordsLaws.{ends_are, value_missing}
+use Rattle.selectors.proofs.WordsLaws.{ends_are, value_missing}
 use native.Mathlib.Omega.{arith}
 use mathlib.Core.Path.{sym, refl, ◌∙◌}
 use borrow.Author.Tests.{leb-true, leb-false}

@@ -4,7 +4,7 @@ use Prim.Native.Nat.{◌+◌}
 use mathlib.Core.Path.{sym}
 use native.Mathlib.Omega.{arith}
 use borrow.Author.Tests.{lt-leb}
-use Rattle.selectors.specs.WordsLaws.{leb_moved}
+use Rattle.selectors.proofs.WordsLaws.{leb_moved}
 use borrow.Author.Rules.{rules}
 use Rattle.selectors.proofs.words.has.Statement.{statement}
 use Rattle.selectors.proofs.words.has.Tie as tie

@@ -7,8 +7,8 @@ use Prim.Native.Nat.{ℕ, ◌+◌}
 use lib.Seq.{sets}
 use Rattle.selectors.specs.Value.{number}
 use native.Mathlib.Omega.{arith}
-use Rattle.selectors.specs.StoresLaws.{sets_out}
-use Rattle.selectors.specs.WordsLaws.{range-put}
+use Rattle.selectors.proofs.StoresLaws.{sets_out}
+use Rattle.selectors.proofs.WordsLaws.{range-put}
 use borrow.Author.Rules.{rules}
 use Rattle.selectors.proofs.words.put_ends.Statement.{statement}
 use Rattle.selectors.proofs.words.put_ends.Tie as tie

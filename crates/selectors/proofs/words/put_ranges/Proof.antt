@@ -6,8 +6,8 @@ use mathlib.Core.List.{List}
 use lib.Seq.{sets}
 use mathlib.Core.Path.{sym, ap, ◌∙◌}
 use native.Mathlib.Omega.{arith}
-use Rattle.selectors.specs.StoresLaws.{sets_out}
-use Rattle.selectors.specs.WordsLaws.{ranges-put}
+use Rattle.selectors.proofs.StoresLaws.{sets_out}
+use Rattle.selectors.proofs.WordsLaws.{ranges-put}
 use borrow.Author.Rules.{rules}
 use Rattle.selectors.proofs.words.put_ranges.Statement.{statement}
 use Rattle.selectors.proofs.words.put_ranges.Tie as tie

@@ -4,8 +4,8 @@ use Rattle.selectors.specs.Value.{number}
 use mathlib.Core.Path.{sym}
 use native.Mathlib.Omega.{arith}
 use lib.ListN.{length-set}
-use Rattle.selectors.specs.StoresLaws.{sets_out}
-use Rattle.selectors.specs.WordsLaws.{value-put, value-put_short}
+use Rattle.selectors.proofs.StoresLaws.{sets_out}
+use Rattle.selectors.proofs.WordsLaws.{value-put, value-put_short}
 use borrow.Author.Rules.{rules}
 use Rattle.selectors.proofs.words.put_value.Statement.{statement}
 use Rattle.selectors.proofs.words.put_value.Tie as tie

@@ -1,6 +1,6 @@
 -- `words::ranges_at` meets its contract: range by range. Assumes nothing.
 use native.Mathlib.Omega.{arith}
-use Rattle.selectors.specs.WordsLaws.{ends_missing}
+use Rattle.selectors.proofs.WordsLaws.{ends_missing}
 use Prim.Native.Nat.{◌+◌}
 use borrow.Author.Rules.{rules}
 use Rattle.selectors.proofs.words.ranges_at.Statement.{statement}

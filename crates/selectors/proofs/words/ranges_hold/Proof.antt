@@ -5,7 +5,7 @@ use mathlib.Core.Path.{sym, ◌∙◌}
 use lib.ListN.{length}
 use borrow.Author.Rules.{rules}
 use borrow.Author.Tests.{leb-true, leb-false, not-true, not-false}
-use Rattle.selectors.specs.HeldLaws.{held_beyond, held_missing, held_there}
+use Rattle.selectors.proofs.HeldLaws.{held_beyond, held_missing, held_there}
 use Rattle.selectors.proofs.words.ranges_hold.Statement.{statement}
 use Rattle.selectors.proofs.words.ranges_hold.Tie as tie
 

@@ -1,7 +1,7 @@
 -- `words::value_at` meets its contract: two words, or one with 0 after it, or none. Assumes nothing.
 use mathlib.Core.Path.{sym, refl, ◌∙◌}
 use borrow.Author.Tests.{leb-true, leb-false}
-use Rattle.selectors.specs.WordsLaws.{value_short}
+use Rattle.selectors.proofs.WordsLaws.{value_short}
 use borrow.Author.Rules.{rules}
 use Rattle.selectors.proofs.words.value_at.Statement.{statement}
 use Rattle.selectors.proofs.words.value_at.Tie as tie

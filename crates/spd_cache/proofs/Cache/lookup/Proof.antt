@@ -6,7 +6,7 @@ use lib.ListN.{length}
 use Rattle.selectors.specs.Value.{combination}
 use Rattle.policy.specs.Words.{row_words}
 use Rattle.spd_cache.specs.Cache.{slot_count}
-use Rattle.spd_cache.specs.CacheLaws.{row_bound, slot_bound, used_action, lookup_hit, lookup_miss, lookup_none}
+use Rattle.spd_cache.proofs.CacheLaws.{row_bound, slot_bound, used_action, lookup_hit, lookup_miss, lookup_none}
 use borrow.Author.Rules.{rules}
 use Rattle.spd_cache.proofs.Cache.lookup.Statement.{statement}
 use Rattle.spd_cache.proofs.Cache.lookup.Tie as tie

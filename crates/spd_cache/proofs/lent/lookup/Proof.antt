@@ -7,9 +7,9 @@ use Rattle.selectors.specs.Value.{combination}
 use Rattle.policy.specs.Policy.{match_from}
 use Rattle.policy.specs.declared.Found.TheVariants.{Row}
 use Rattle.spd_cache.specs.Cache.{slot_count, cached, looked_up}
-use Rattle.spd_cache.specs.CacheLaws.{lookup_hit}
+use Rattle.spd_cache.proofs.CacheLaws.{lookup_hit}
 use Rattle.spd_cache.specs.Lent.{count_at, cache_from}
-use Rattle.spd_cache.specs.LentLaws.{cache_kept, hit_below, hit_action}
+use Rattle.spd_cache.proofs.LentLaws.{cache_kept, hit_below, hit_action}
 use borrow.Author.Rules.{rules}
 use Rattle.spd_cache.proofs.lent.lookup.Statement.{statement}
 use Rattle.spd_cache.proofs.lent.lookup.Tie as tie

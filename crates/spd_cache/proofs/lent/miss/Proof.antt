@@ -4,8 +4,8 @@ use mathlib.Core.Path.{refl, sym, ◌∙◌}
 use lib.ListN.{length}
 use Rattle.selectors.specs.Value.{combination}
 use Rattle.policy.specs.Words.{row_words}
-use Rattle.spd_cache.specs.CacheLaws.{row_bound}
-use Rattle.spd_cache.specs.LentLaws.{cache_kept}
+use Rattle.spd_cache.proofs.CacheLaws.{row_bound}
+use Rattle.spd_cache.proofs.LentLaws.{cache_kept}
 use borrow.Author.Rules.{rules}
 use Rattle.spd_cache.proofs.lent.miss.Statement.{statement}
 use Rattle.spd_cache.proofs.lent.miss.Tie as tie

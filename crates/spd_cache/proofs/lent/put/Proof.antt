@@ -4,7 +4,7 @@ use native.Mathlib.Omega.{arith}
 use mathlib.Core.Path.{◌≡◌, refl, sym, subst, ◌∙◌}
 use lib.ListN.{length, take, length-set}
 use Rattle.spd_cache.specs.Lent.{cache_size, cache_words}
-use Rattle.spd_cache.specs.LentLaws.{copied_next, two_more}
+use Rattle.spd_cache.proofs.LentLaws.{copied_next, two_more}
 use Rattle.spd_cache.specs.Cache.{slots_words}
 use borrow.Author.Rules.{rules}
 use Rattle.spd_cache.proofs.lent.put.Statement.{statement}

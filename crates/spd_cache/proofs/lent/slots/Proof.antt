@@ -3,7 +3,7 @@ use Prim.Native.Nat.{ℕ, ◌-◌, ◌≤◌}
 use native.Mathlib.Omega.{arith}
 use mathlib.Core.Path.{◌≡◌, refl, subst, ◌∙◌}
 use lib.ListN.{length, take, length-set}
-use Rattle.spd_cache.specs.LentLaws.{copied_next, copied_whole}
+use Rattle.spd_cache.proofs.LentLaws.{copied_next, copied_whole}
 use Rattle.spd_cache.specs.Cache.{slots_words}
 use borrow.Author.Rules.{rules}
 use Rattle.spd_cache.proofs.lent.slots.Statement.{statement}

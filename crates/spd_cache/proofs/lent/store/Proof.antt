@@ -1,6 +1,6 @@
 -- `lent::store` meets its contract: the row, the count and the turn are written where they lie. Assumes nothing.
 use lib.ListN.{length-set}
-use Rattle.spd_cache.specs.LentLaws.{stored-words}
+use Rattle.spd_cache.proofs.LentLaws.{stored-words}
 use borrow.Author.Rules.{rules}
 use Rattle.spd_cache.proofs.lent.store.Statement.{statement}
 use Rattle.spd_cache.proofs.lent.store.Tie as tie

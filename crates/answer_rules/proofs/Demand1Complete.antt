@@ -1,0 +1,193 @@
+-- Demand 1: 'Any bytes at all, as packet, policy file or association, get an answer from document 01's list': the numbers that each call
+-- answers with, and what an answer carries. Assumes nothing.
+use Rattle.std.specs.Prelude.{ℕ, ◌≡◌, refl, true}
+use mathlib.Core.List.{List, [], ◌∷◌, Memᴰ}
+use Rattle.selectors.specs.declared.Direction.{Direction}
+use Rattle.policy.specs.declared.Action.{Action}
+use Rattle.sad.specs.Pairs.{Pair, pairs, outcome_number, add_outcome, remove_outcome}
+use Rattle.sad.specs.declared.NewPair.{NewPair}
+use Rattle.sad.specs.declared.Outcome.{Outcome}
+use Rattle.sad.specs.declared.Outcome.TheVariants.{Done, ReservedSpi, AlreadyLive, TableFull, BadPair, NothingToRemove}
+use Rattle.verdicts.specs.Calls.{outbound_by, inbound_by, from_sa_by}
+use Rattle.verdicts.specs.Verdict.{verdict_number, carried}
+use Rattle.verdicts.specs.declared.Verdict.{Verdict}
+use Rattle.verdicts.specs.declared.Verdict.TheVariants.{Pass, Deliver, Protect, Wanted, ToIpsec, NotReadable, Discarded, CameInClear, NoSuchPair, DoesNotFit, IpsecFragment, IpsecTooShort, TriggerUnreadable, TriggerDoesNotFit}
+use Rattle.policy_text.specs.declared.Refusal.TheVariants.{NotHeader, NotEnded, TooMany, BadRow}
+use Rattle.normal_form_file.specs.Normalise.{normalised_number, normalised_carries}
+use Rattle.normal_form_file.specs.declared.Normalised.{Normalised}
+use Rattle.normal_form_file.specs.declared.Normalised.TheVariants.{Printed, Refused, TooLarge, NoRoom}
+use Rattle.acceptance.specs.Spd.{acceptance_number, acceptance_carries}
+use Rattle.acceptance.specs.declared.Acceptance.{Acceptance}
+use Rattle.acceptance.specs.declared.Acceptance.TheVariants.{Accepted, Refused as RefusedFile, TooLarge as OverForm}
+use Rattle.answer_rules.proofs.AmongLaws.{among, among_list}
+use Rattle.answer_rules.specs.Terms.{normalised_file, accepted_file}
+use Rattle.answer_rules.proofs.PacketRulesLaws.{OutboundRule, InboundRule, FromSaRule, outbound-ruled, inbound-ruled, from_sa-ruled}
+use Rattle.answer_rules.proofs.PairRulesLaws.{AddRule, RemoveRule, add-ruled, remove-ruled}
+
+-- Going out.
+abbrev pub out_numbers : List ℕ
+out_numbers = 0 ∷ 2 ∷ 3 ∷ 10 ∷ 11 ∷ []
+
+pub out_answers : (search : List ℕ → Action) (pairs : List Pair) (p : List ℕ)
+    → Memᴰ (verdict_number (outbound_by search pairs p)) out_numbers
+out_answers search pairs p = among_list _ _ (by (outbound_by search pairs p) (outbound-ruled search pairs p).holds)
+  where
+    by : (v : Verdict) → OutboundRule search pairs p v → among (verdict_number v) out_numbers ≡ true
+    by Pass h = refl
+    by Deliver h = absurd h
+    by (Protect n protocol spi) h = refl
+    by (Wanted n) h = refl
+    by (ToIpsec protocol spi) h = absurd h
+    by NotReadable h = refl
+    by Discarded h = refl
+    by CameInClear h = absurd h
+    by NoSuchPair h = absurd h
+    by DoesNotFit h = absurd h
+    by IpsecFragment h = absurd h
+    by IpsecTooShort h = absurd h
+    by TriggerUnreadable h = absurd h
+    by TriggerDoesNotFit h = absurd h
+
+-- Coming in from outside.
+abbrev pub in_numbers : List ℕ
+in_numbers = 0 ∷ 4 ∷ 10 ∷ 11 ∷ 12 ∷ 13 ∷ 15 ∷ 16 ∷ []
+
+pub in_answers : (search : List ℕ → Action) (address : ℕ) (pairs : List Pair) (p : List ℕ)
+    → Memᴰ (verdict_number (inbound_by search address pairs p)) in_numbers
+in_answers search address pairs p = among_list _ _ (by (inbound_by search address pairs p) (inbound-ruled search address pairs p).holds)
+  where
+    by : (v : Verdict) → InboundRule search address pairs p v → among (verdict_number v) in_numbers ≡ true
+    by Pass h = refl
+    by Deliver h = absurd h
+    by (Protect n protocol spi) h = absurd h
+    by (Wanted n) h = absurd h
+    by (ToIpsec protocol spi) h = refl
+    by NotReadable h = refl
+    by Discarded h = refl
+    by CameInClear h = refl
+    by NoSuchPair h = refl
+    by DoesNotFit h = absurd h
+    by IpsecFragment h = refl
+    by IpsecTooShort h = refl
+    by TriggerUnreadable h = absurd h
+    by TriggerDoesNotFit h = absurd h
+
+-- Coming in from an association.
+abbrev pub sa_numbers : List ℕ
+sa_numbers = 1 ∷ 10 ∷ 13 ∷ 14 ∷ 17 ∷ 18 ∷ []
+
+pub sa_answers : (protocol spi : ℕ) (pairs : List Pair) (p : List ℕ)
+    → Memᴰ (verdict_number (from_sa_by protocol spi pairs p)) sa_numbers
+sa_answers protocol spi pairs p = among_list _ _ (by (from_sa_by protocol spi pairs p) (from_sa-ruled protocol spi pairs p).holds)
+  where
+    by : (v : Verdict) → FromSaRule protocol spi pairs p v → among (verdict_number v) sa_numbers ≡ true
+    by Pass h = absurd h
+    by Deliver h = refl
+    by (Protect n q s) h = absurd h
+    by (Wanted n) h = absurd h
+    by (ToIpsec q s) h = absurd h
+    by NotReadable h = refl
+    by Discarded h = absurd h
+    by CameInClear h = absurd h
+    by NoSuchPair h = refl
+    by DoesNotFit h = refl
+    by IpsecFragment h = absurd h
+    by IpsecTooShort h = absurd h
+    by TriggerUnreadable h = refl
+    by TriggerDoesNotFit h = refl
+
+-- Adding a pair, and removing one.
+abbrev pub add_numbers : List ℕ
+add_numbers = 5 ∷ 25 ∷ 26 ∷ 27 ∷ 28 ∷ []
+
+pub add_answers : (ws : List ℕ) (q : NewPair) → Memᴰ (outcome_number (add_outcome (pairs ws) q)) add_numbers
+add_answers ws q = among_list _ _ (by (add_outcome (pairs ws) q) (add-ruled ws q).holds)
+  where
+    by : (o : Outcome) → AddRule ws q o → among (outcome_number o) add_numbers ≡ true
+    by Done h = refl
+    by ReservedSpi h = refl
+    by AlreadyLive h = refl
+    by TableFull h = refl
+    by BadPair h = refl
+    by NothingToRemove h = absurd h
+
+abbrev pub remove_numbers : List ℕ
+remove_numbers = 5 ∷ 29 ∷ []
+
+pub remove_answers : (ws : List ℕ) (protocol spi : ℕ) → Memᴰ (outcome_number (remove_outcome (pairs ws) protocol spi)) remove_numbers
+remove_answers ws protocol spi = among_list _ _ (by (remove_outcome (pairs ws) protocol spi) (remove-ruled ws protocol spi).holds)
+  where
+    by : (o : Outcome) → RemoveRule ws protocol spi o → among (outcome_number o) remove_numbers ≡ true
+    by Done h = refl
+    by ReservedSpi h = absurd h
+    by AlreadyLive h = absurd h
+    by TableFull h = absurd h
+    by BadPair h = absurd h
+    by NothingToRemove h = refl
+
+-- Accepting a policy file.
+abbrev pub accept_numbers : List ℕ
+accept_numbers = 5 ∷ 20 ∷ 21 ∷ 22 ∷ 23 ∷ 24 ∷ []
+
+pub accept_answers : (limit : ℕ) (s : List ℕ) → Memᴰ (acceptance_number (accepted_file limit s)) accept_numbers
+accept_answers limit s = among_list _ _ (by (accepted_file limit s))
+  where
+    by : (a : Acceptance) → among (acceptance_number a) accept_numbers ≡ true
+    by Accepted = refl
+    by (RefusedFile NotHeader) = refl
+    by (RefusedFile NotEnded) = refl
+    by (RefusedFile TooMany) = refl
+    by (RefusedFile (BadRow i)) = refl
+    by (OverForm w) = refl
+
+-- Normalising.
+abbrev pub normalise_numbers : List ℕ
+normalise_numbers = 5 ∷ 20 ∷ 21 ∷ 22 ∷ 23 ∷ 24 ∷ 31 ∷ []
+
+pub normalise_answers : (limit : ℕ) (d : Direction) (room : ℕ) (s : List ℕ)
+    → Memᴰ (normalised_number (normalised_file limit d room s)) normalise_numbers
+normalise_answers limit d room s = among_list _ _ (by (normalised_file limit d room s))
+  where
+    by : (a : Normalised) → among (normalised_number a) normalise_numbers ≡ true
+    by (Printed n) = refl
+    by (Refused NotHeader) = refl
+    by (Refused NotEnded) = refl
+    by (Refused TooMany) = refl
+    by (Refused (BadRow i)) = refl
+    by (TooLarge w) = refl
+    by NoRoom = refl
+
+-- 'An answer carries zeros where nothing is listed': of the answers to packets all but 2, 3 and 4, and of those to a policy all but 20 and 22,
+-- and of those to a print all but 5, 20 and 22.
+pub packet_zeros : (v : Verdict) → (Memᴰ (verdict_number v) (2 ∷ 3 ∷ 4 ∷ []) → ⊥) → carried v ≡ 0 ∷ 0 ∷ 0 ∷ []
+packet_zeros Pass n = refl
+packet_zeros Deliver n = refl
+packet_zeros (Protect m protocol spi) n = absurd (n (among_list 2 _ refl))
+packet_zeros (Wanted m) n = absurd (n (among_list 3 _ refl))
+packet_zeros (ToIpsec protocol spi) n = absurd (n (among_list 4 _ refl))
+packet_zeros NotReadable n = refl
+packet_zeros Discarded n = refl
+packet_zeros CameInClear n = refl
+packet_zeros NoSuchPair n = refl
+packet_zeros DoesNotFit n = refl
+packet_zeros IpsecFragment n = refl
+packet_zeros IpsecTooShort n = refl
+packet_zeros TriggerUnreadable n = refl
+packet_zeros TriggerDoesNotFit n = refl
+
+pub policy_zeros : (a : Acceptance) → (Memᴰ (acceptance_number a) (20 ∷ 22 ∷ []) → ⊥) → acceptance_carries a ≡ 0
+policy_zeros Accepted n = refl
+policy_zeros (RefusedFile NotHeader) n = refl
+policy_zeros (RefusedFile NotEnded) n = refl
+policy_zeros (RefusedFile TooMany) n = refl
+policy_zeros (RefusedFile (BadRow i)) n = absurd (n (among_list 20 _ refl))
+policy_zeros (OverForm w) n = absurd (n (among_list 22 _ refl))
+
+pub print_zeros : (a : Normalised) → (Memᴰ (normalised_number a) (5 ∷ 20 ∷ 22 ∷ []) → ⊥) → normalised_carries a ≡ 0
+print_zeros (Printed m) n = absurd (n (among_list 5 _ refl))
+print_zeros (Refused NotHeader) n = refl
+print_zeros (Refused NotEnded) n = refl
+print_zeros (Refused TooMany) n = refl
+print_zeros (Refused (BadRow i)) n = absurd (n (among_list 20 _ refl))
+print_zeros (TooLarge w) n = absurd (n (among_list 22 _ refl))
+print_zeros NoRoom n = refl

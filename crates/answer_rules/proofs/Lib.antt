@@ -1,0 +1,11 @@
+pub mod AmongLaws
+pub mod DecidesLaws
+pub mod ExactlyLaws
+pub mod NamedLaws
+pub mod TermsLaws
+pub mod PacketRulesLaws
+pub mod PairRulesLaws
+pub mod FileRulesLaws
+pub mod Demand1
+pub mod Demand1Complete
+pub mod Demand1Unchanged

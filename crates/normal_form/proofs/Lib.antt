@@ -1,0 +1,9 @@
+pub mod SearchLaws
+pub mod RunsLaws
+pub mod Laws
+pub mod LayoutLaws
+pub mod ShapeLaws
+pub mod LoopLaws
+pub mod MapLaws
+pub mod ComputeLaws
+pub mod Examples

@@ -1,0 +1,11 @@
+pub mod CutsLaws
+pub mod DecimalsLaws
+pub mod RangesLaws
+pub mod RowsLaws
+pub mod Edition1Laws
+pub mod EditionsLaws
+pub mod FilesLaws
+pub mod AcceptedLaws
+pub mod LengthLaws
+pub mod NormalFormsLaws
+pub mod WordsLaws

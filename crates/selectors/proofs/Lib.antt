@@ -1,0 +1,6 @@
+pub mod RangeLaws
+pub mod ValueLaws
+pub mod BetweenLaws
+pub mod WordsLaws
+pub mod HeldLaws
+pub mod StoresLaws

@@ -1,0 +1,3 @@
+pub mod CacheLaws
+pub mod SlotLaws
+pub mod LentLaws
