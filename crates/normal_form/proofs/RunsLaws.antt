@@ -38,7 +38,7 @@ module _ {A : Type 0} where
   find_rows_above none k n start g v vs h = find-nil none (v ∷ vs)
   find_rows_above none k n (ts ▸ t) g v vs h =
       find-append none (rows_of ts) _ (v ∷ vs)
-      ∙ find_rows_above _ k t.low ts g.4 v vs (omega arith)
+      ∙ find_rows_above (find none (map (under t.low t.high) t.layout) (v ∷ vs)) k t.low ts g.4 v vs (omega arith)
       ∙ find_outside none t.low t.high v vs (contains_above _ v (omega arith)) t.layout
 
   -- The search of the rows of the intervals is, at the first value v, the search of the layout k v.
@@ -47,7 +47,7 @@ module _ {A : Type 0} where
   unfolding Runs rows_of
   find_rows none k n start g v vs h = absurd (omega arith)
   find_rows none k n (ts ▸ t) g v vs h =
-      find-append none (rows_of ts) _ (v ∷ vs) ∙ by (dec_lt v t.low) (λ lt. find_rows _ k t.low ts g.4 v vs lt)
+      find-append none (rows_of ts) _ (v ∷ vs) ∙ by (dec_lt v t.low) (λ lt. find_rows (find none (map (under t.low t.high) t.layout) (v ∷ vs)) k t.low ts g.4 v vs lt)
     where
       last : A
       last = find none (map (under t.low t.high) t.layout) (v ∷ vs)

@@ -1,0 +1,8 @@
+-- `words::range_in` meets its contract. Assumes nothing.
+use mathlib.Core.Path.{◌∙◌}
+use Rattle.selectors.proofs.WordsLaws.{ends_hold}
+use borrow.Author.Rules.{rules}
+use Rattle.selectors.proofs.words.range_in.Goals as goal
+
+pub returns : goal.returns
+returns c = c.between.ensures ∙ ends_hold _ _ _ _ _ c.value_in-low.ensures c.value_in-high.ensures
