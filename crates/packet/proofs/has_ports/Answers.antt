@@ -2,18 +2,14 @@
 use mathlib.Core.Logic.{inl, inr, ⊎_elim}
 use borrow.Author.Tests.{ne_eqb}
 use Rattle.packet.specs.Read.{carries_ports}
-use Rattle.packet.proofs.has_ports.Statement.{statement}
-use Rattle.packet.proofs.has_ports.Tie as tie
+use Rattle.packet.proofs.has_ports.Goals as goal
 
-returns : tie.Need-returns
+pub returns-in-6 : goal.returns-in-6
 unfolding carries_ports
-returns c = ⊎_elim (λ e. rw e) (⊎_elim (λ e. rw e) (λ e. rw e)) c.match.keys1
+returns-in-6 c = ⊎_elim (λ e. rw e) (⊎_elim (λ e. rw e) (λ e. rw e)) c.in-6.is
 
-returns-2 : tie.Need-returns-2
+pub returns-in_default : goal.returns-in_default
 unfolding carries_ports
-returns-2 c =
-    let n = c.match.rest.1 in
+returns-in_default c =
+    let n = c.in_default.in_default-own.rest.1 in
     rw (ne_eqb _ 6 (λ e. n (inl e)), ne_eqb _ 17 (λ e. n (inr (inl e))), ne_eqb _ 132 (λ e. n (inr (inr e))))
-
-pub has-ports-spec : {M : Type 1} → statement M
-has-ports-spec = tie.close (tie.spec returns returns-2)
