@@ -1,12 +1,25 @@
-use Rattle.std.proofs.Common.{rules, ◌≡◌, ◌≤◌, ◌<◌, length, ℕ, ◌+◌, ◌-◌, ◌*◌, ◌/◌, ◌%◌, Bool, true, false, nat_eq, nat_lt, List, [], ◌∷◌, ◌++◌, slice_index_or, slice_set, bit_and, bit_or, Fits, w8, w32, w64, Bor, MutBor}
-use Rattle.policy_text.specs.Bytes.{index, before, after, count, are_same_bytes}
-use Rattle.policy_text.specs.Decimals.{unpadded, decimal}
+-- `policy_text::count` meets its contract. The loop's invariant: the count is n and what the rest from i on has. Assumes nothing.
+use Prim.Native.Nat.{◌≤◌, ◌+◌, ◌-◌}
+use native.Mathlib.Omega.{arith}
+use mathlib.Core.Path.{◌≡◌}
+use mathlib.Core.Logic.{⊎_elim}
+use lib.ListN.{length, drop}
+use Rattle.policy_text.specs.Bytes.{count}
+use Rattle.policy_text.proofs.BytesLaws.{count-here, count_next, count_none}
+use borrow.Author.Rules.{rules}
 use Rattle.policy_text.proofs.count.Goals as goal
+use Rattle.policy_text.proofs.count.Goals.{then-s-i, else-s-i}
 
--- src/lib.rt:51:5
 pub loop-i-preserved : goal.loop-i-preserved
-loop-i-preserved c = ?
+loop-i-preserved c =
+    let a = c.args in
+    let i = c.loop-i.i in
+    elim c.if-s-i.branch [
+      | then-s-i w ↦ omega (arith, count-here a.b a.s.now i (search rules) w.if-s-i.true)
+      | else-s-i w ↦ omega (arith, count_next a.b a.s.now i (search rules) w.if-s-i.false)
+    ]
 
--- src/lib.rt:46:1
 pub returns : goal.returns
-returns c = ?
+returns c =
+    let a = c.args in
+    omega (arith, count_none a.b a.s.now c.loop-i.i (search rules))
