@@ -1,0 +1,11 @@
+-- `sad::is_port_range` meets its contract: the constructor's answer. Assumes nothing.
+use Rattle.sad.specs.PairsLaws.{port_made, chosen-made}
+use mathlib.Core.Path.{refl, sym, ap, ◌∙◌}
+use borrow.Author.Rules.{rules}
+use Rattle.sad.proofs.is_port_range.Goals as goal
+
+pub returns-in-Made : goal.returns-in-Made
+returns-in-Made c = sym (ap port_made c.in-Made.is) ∙ ap port_made c.new-made.ensures ∙ chosen-made port_made _ _ refl refl _
+
+pub returns-in-Refused : goal.returns-in-Refused
+returns-in-Refused c = sym (ap port_made c.in-Refused.is) ∙ ap port_made c.new-made.ensures ∙ chosen-made port_made _ _ refl refl _
