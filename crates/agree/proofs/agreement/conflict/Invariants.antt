@@ -1,0 +1,14 @@
+-- `agree::agreement::conflict` meets its contract. The loop's invariant: there is peace from `from` to k. The measure is the count of the entries not
+-- looked at. Assumes nothing.
+use Prim.Native.Nat.{suc, ◌≤◌, ◌-◌}
+use native.Mathlib.Omega.{arith}
+use borrow.Author.Rules.{rules}
+use Rattle.agree.specs.Sides.{sides, Peace}
+use Rattle.agree.specs.SidesLaws.{peace_none, peace_more, peace_ended}
+use Rattle.agree.proofs.agreement.conflict.Given as goal
+
+abbrev pub invariant-loop-k : goal.invariant-loop-k
+invariant-loop-k l = (l.from ≤ l.k) × Peace (sides l.first l.second l.entries l.asked.count l.asked.field) l.asked.second l.asked.row l.from l.k l.bounds
+
+abbrev pub decreases-loop-k : goal.decreases-loop-k
+decreases-loop-k l = suc l.asked.count - l.k

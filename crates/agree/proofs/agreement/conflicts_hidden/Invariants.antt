@@ -1,0 +1,17 @@
+-- `agree::agreement::conflicts_hidden` meets its contract. The loop's invariant: there is peace from `from` to k. The measure is the count of the entries not
+-- looked at. Assumes nothing.
+use Prim.Native.Nat.{suc, ◌≤◌, ◌-◌}
+use native.Mathlib.Omega.{arith}
+use mathlib.Core.Path.{sym, ◌∙◌}
+use mathlib.Core.Bool.{false≢true}
+use borrow.Author.Tests.{not-true, not-false}
+use borrow.Author.Rules.{rules}
+use Rattle.agree.specs.Sides.{sides, Peace}
+use Rattle.agree.specs.SidesLaws.{passed_hidden, peace_none, peace-on, peace_end}
+use Rattle.agree.proofs.agreement.conflicts_hidden.Given as goal
+
+abbrev pub invariant-loop-k : goal.invariant-loop-k
+invariant-loop-k l = (l.left ≤ l.parts) × ((l.from ≤ l.k) × Peace (sides l.first l.second l.entries l.asked.count l.asked.field) l.asked.second l.asked.row l.from l.k l.bounds.words)
+
+abbrev pub decreases-loop-k : goal.decreases-loop-k
+decreases-loop-k l = suc l.asked.count - l.k

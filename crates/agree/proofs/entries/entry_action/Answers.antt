@@ -1,0 +1,11 @@
+-- `agree::entries::entry_action` meets its contract. By whether it is the end row. Assumes nothing.
+use mathlib.Core.Path.{sym, ◌∙◌}
+use borrow.Author.Rules.{rules}
+use Rattle.agree.specs.SidesLaws.{action_entry, action_end}
+use Rattle.agree.proofs.entries.entry_action.Goals as goal
+
+pub returns-then-k-count : goal.returns-then-k-count
+returns-then-k-count c = c.code_action.ensures ∙ sym (action_entry _ _ c.if-k-count.true)
+
+pub returns : goal.returns
+returns c = sym (action_end _ _ c.if-k-count.false)

@@ -1,0 +1,11 @@
+-- `agree::entries::entry_on` meets its contract. By whether it is the end row. Assumes nothing.
+use mathlib.Core.Path.{sym, ◌∙◌}
+use borrow.Author.Rules.{rules}
+use Rattle.agree.specs.SidesLaws.{on-entry, on_end}
+use Rattle.agree.proofs.entries.entry_on.Goals as goal
+
+pub returns-then-k-count : goal.returns-then-k-count
+returns-then-k-count c = c.on.ensures ∙ sym (on-entry _ _ _ _ c.if-k-count.true)
+
+pub returns : goal.returns
+returns c = sym (on_end _ _ _ _ c.if-k-count.false)
