@@ -2,25 +2,28 @@
 // hex and a space, and then a semicolon and what the packet is.
 #![tactic(auto)]
 
-ghost use Rattle.std.specs.Prelude.{◌≤◌, ◌<◌, length};
-ghost use Rattle.io.specs.Counts.{IsPrefixLen};
+ghost use Rattle.std.specs.Prelude.{◌≡◌, ◌≤◌, ◌<◌, length, take};
 
 use packet::{Packet, Reading};
 use selectors::{Direction, Value};
+use std::io;
+use std::io::Read;
 
-fn main() {
-    let mut text = io::large_buffer();
-    let n = io::read_full(0, &mut text);
-    each_line(&text[..n]);
+// Of standard input 65,536 bytes are read, and no more.
+fn main(rt: HostRuntime) -> io::Result<()> {
+    let mut text = Vec::new(rt.alloc());
+    rt.reader().take(65536).read_to_end(&mut text)?;
+    each_line(&rt, &text)
 }
 
-fn each_line(text: &[u8]) {
+fn each_line(rt: &impl Print, text: &[u8]) -> io::Result<()> {
     let mut at = 0;
     while at < text.len() {
         let end = line_end(text, at);
-        one_line(&text[at..end]);
+        one_line(rt, &text[at..end])?;
         at = end + 1;
     }
+    Ok(())
 }
 
 // Where the line that begins at `from` ends.
@@ -38,20 +41,21 @@ fn line_end(text: &[u8], from: usize) -> usize
     end
 }
 
-fn one_line(line: &[u8]) {
+fn one_line(rt: &impl Print, line: &[u8]) -> io::Result<()> {
     let mut bytes = [0u8; 128];
     let n = decode(line, &mut bytes);
     let name = 3 * n + 2;
     if name < line.len() {
-        io::write_all(1, &line[name..]);
+        rt.write_all(&line[name..])?;
     }
-    io::write_all(1, b"\n");
-    show(&bytes[..n]);
+    println!(rt)?;
+    show(rt, &bytes[..n])
 }
 
 // The bytes of a line, up to its semicolon, and how many there are.
 fn decode(line: &[u8], bytes: &mut [u8]) -> usize
-    ensures { IsPrefixLen result bytes.new }
+    ensures within { result ≤ length bytes.new }
+    ensures taken { result ≡ length (take result bytes.new) }
 {
     let mut n = 0;
     let mut at = 0;
@@ -82,64 +86,61 @@ fn digit(byte: u8) -> u8
 
 // A packet as one that goes out, as one that comes in and as a triggering header; and its own triggering header, if
 // it is an ICMP error.
-fn show(bytes: &[u8]) {
-    io::write_all(1, b"  out: ");
-    show_reading(packet::read(bytes, Direction::Out));
-    io::write_all(1, b"  in: ");
-    show_reading(packet::read(bytes, Direction::In));
-    io::write_all(1, b"  header: ");
-    show_reading(packet::read_trigger(bytes, Direction::Out));
+fn show(rt: &impl Print, bytes: &[u8]) -> io::Result<()> {
+    print!(rt; "  out: ")?;
+    show_reading(rt, packet::read(bytes, Direction::Out))?;
+    print!(rt; "  in: ")?;
+    show_reading(rt, packet::read(bytes, Direction::In))?;
+    print!(rt; "  header: ")?;
+    show_reading(rt, packet::read_trigger(bytes, Direction::Out))?;
     let Reading::Readable(read) = packet::read(bytes, Direction::In) else {
-        return;
+        return Ok(());
     };
     if packet::is_icmp_error(read.selectors) {
-        show_trigger(packet::trigger(bytes, read));
+        show_trigger(rt, packet::trigger(bytes, read))?;
     }
+    Ok(())
 }
 
-fn show_trigger(part: &[u8]) {
-    io::write_all(1, b"  triggering header in ");
-    io::print_decimal(1, part.len() as u64);
-    io::write_all(1, b" bytes: ");
-    show_reading(packet::read_trigger(part, Direction::Out));
+fn show_trigger(rt: &impl Print, part: &[u8]) -> io::Result<()> {
+    let count = part.len();
+    print!(rt; "  triggering header in {count} bytes: ")?;
+    show_reading(rt, packet::read_trigger(part, Direction::Out))
 }
 
-fn show_reading(reading: Reading) {
+fn show_reading(rt: &impl Print, reading: Reading) -> io::Result<()> {
     match reading {
-        Reading::Readable(read) => show_packet(read),
-        Reading::Unreadable => {
-            io::write_all(1, b"unreadable\n");
-        }
+        Reading::Readable(read) => show_packet(rt, read),
+        Reading::Unreadable => println!(rt; "unreadable"),
     }
 }
 
-fn show_packet(read: Packet) {
+fn show_packet(rt: &impl Print, read: Packet) -> io::Result<()> {
     let selectors = read.selectors;
-    io::print_hex(1, selectors.local.lower, 8);
-    io::write_all(1, b" ");
-    io::print_hex(1, selectors.remote.lower, 8);
-    show_number(b" protocol ", selectors.protocol.lower);
-    show_port(b" ports ", selectors.local_port);
-    show_port(b" ", selectors.remote_port);
-    show_number(b" offset ", read.offset);
+    print!(rt;
+        "{:08x} {:08x}",
+        selectors.local.lower, selectors.remote.lower
+    )?;
+    show_number(rt, " protocol ", selectors.protocol.lower)?;
+    show_port(rt, " ports ", selectors.local_port)?;
+    show_port(rt, " ", selectors.remote_port)?;
+    show_number(rt, " offset ", read.offset)?;
     if read.more_fragments {
-        io::write_all(1, b" more");
+        print!(rt; " more")?;
     }
-    show_number(b" upper ", read.upper as u64);
-    show_number(b" to ", read.end as u64);
-    io::write_all(1, b"\n");
+    show_number(rt, " upper ", read.upper as u64)?;
+    show_number(rt, " to ", read.end as u64)?;
+    println!(rt)
 }
 
-fn show_number(name: &[u8], number: u64) {
-    io::write_all(1, name);
-    io::print_decimal(1, number);
+fn show_number(rt: &impl Print, name: &str, number: u64) -> io::Result<()> {
+    print!(rt; "{name}{number}")
 }
 
-fn show_port(name: &[u8], port: Value) {
+fn show_port(rt: &impl Print, name: &str, port: Value) -> io::Result<()> {
     if port.same(selectors::ABSENT) {
-        io::write_all(1, name);
-        io::write_all(1, b"absent");
+        print!(rt; "{name}absent")
     } else {
-        show_number(name, port.lower);
+        show_number(rt, name, port.lower)
     }
 }

@@ -1,5 +1,4 @@
 // The ordered search over a lent list of row records.
-// A slice of structs is not covered by the borrow checker: `search` is proved by hand, and all that it calls is covered.
 #![tactic(auto)]
 
 ghost use Rattle.std.specs.Prelude.{◌≡◌, map};

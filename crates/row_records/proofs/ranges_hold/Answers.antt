@@ -3,7 +3,6 @@ use mathlib.Core.Path.{sym, ◌∙◌}
 use mathlib.Core.Bool.{and-true}
 use borrow.Author.Tests.{not-true, not-false}
 use Rattle.selectors.specs.Range.{holds}
-use borrow.Author.Rules.{rules}
 use Rattle.row_records.proofs.ranges_hold.Goals as goal
 
 pub returns-then-not-holds : goal.returns-then-not-holds

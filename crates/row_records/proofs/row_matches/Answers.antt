@@ -1,6 +1,5 @@
 -- `row_records::row_matches` meets its contract: the direction first, and then the ranges. Assumes nothing.
 use mathlib.Core.Path.{sym, ◌∙◌}
-use borrow.Author.Rules.{rules}
 use borrow.Author.Tests.{not-true, not-false}
 use Rattle.policy.specs.Policy.{matches}
 use Rattle.row_records.proofs.row_matches.Goals as goal
