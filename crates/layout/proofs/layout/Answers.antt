@@ -26,10 +26,10 @@ returns-then-known_alike c =
     laid_all _ _ (record { direction = a.direction; highest = a.highest; limit = a.limit }) _ a.room.now _ _ (omega arith) (laid_empty _ _ _ _ _ (c.known_alike.ensures c.if-known_alike.true))
 
 pub layout_field-requires : goal.layout_field-requires
-layout_field-requires c = (
-  (search rules, branch_start _ _ _ _ _ _ refl c.rows_for-firsts.ensures c.rows_for-seconds.ensures),
-  rw (all_words c.args.limit) (omega arith),
-)
+layout_field-requires c = record {
+  field_lt_field_count = (search rules, branch_start _ _ _ _ _ _ refl c.rows_for-firsts.ensures c.rows_for-seconds.ensures);
+  field_in_bounds = rw (all_words c.args.limit) (omega arith);
+}
 
 pub returns : goal.returns
 returns c =

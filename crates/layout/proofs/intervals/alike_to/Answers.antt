@@ -1,7 +1,6 @@
 -- `layout::intervals::alike_to` meets its contract: below the range, above it, or in it. Assumes nothing.
 use mathlib.Core.Path.{sym, ◌∙◌}
 use borrow.Author.Tests.{ltb-true, ltb-false}
-use borrow.Author.Rules.{rules}
 use Rattle.selectors.specs.Value.{number}
 use Rattle.selectors.specs.Ranges.{ends_range}
 use Rattle.layout.specs.StepsLaws.{ends_below, ends_above, ends_inside}

@@ -1,6 +1,5 @@
 -- `layout::intervals::end_among` meets its contract: the rows that may part values, or all rows. Assumes nothing.
 use native.Mathlib.Omega.{arith}
-use borrow.Author.Rules.{rules}
 use Rattle.layout.specs.FormLaws.{search-among, values_length}
 use Rattle.layout.proofs.intervals.end_among.Goals as goal
 

@@ -1,18 +1,12 @@
 -- `layout::intervals::end_listed` meets its contract. The loop's invariant: the first i rows of the list treat all values to `end` alike.
 -- The measure is the count of the others. Assumes nothing.
-use Prim.Native.Nat.{◌≤◌, ◌<◌, ◌-◌, ◌/◌}
+use Prim.Native.Nat.{◌<◌, ◌/◌}
 use native.Mathlib.Omega.{arith}
 use mathlib.Core.Path.{◌≡◌}
 use lib.ListN.{length}
 use Rattle.policy.specs.Words.{row_words}
-use Rattle.selectors.specs.Value.{number}
-use Rattle.layout.specs.Steps.{IntervalEnd}
-use Rattle.layout.specs.Lists.{AlikeListed}
 use Rattle.layout.specs.ListsLaws.{listed_start, listed_more}
 use borrow.Author.Rules.{rules}
-use Rattle.layout.proofs.intervals.end_listed.Reads as reads
-use Rattle.layout.proofs.intervals.end_listed.Lts as lts
-use Rattle.layout.proofs.intervals.range_end.Reads as range-end-reads
 use Rattle.layout.proofs.intervals.end_listed.Goals as goal
 
 pub loop-i-init : goal.loop-i-init

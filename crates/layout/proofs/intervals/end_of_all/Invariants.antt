@@ -1,15 +1,9 @@
 -- `layout::intervals::end_of_all` meets its contract. The loop's invariant: the rows before `row` treat all values to `end` alike. The measure is the count
 -- of the others. Assumes nothing.
-use Prim.Native.Nat.{◌≤◌, ◌-◌, ◌/◌}
-use native.Mathlib.Omega.{arith}
-use mathlib.Core.Path.{◌≡◌}
-use lib.ListN.{length}
+use Prim.Native.Nat.{◌≤◌, ◌-◌}
 use Rattle.selectors.specs.Value.{number}
 use Rattle.layout.specs.Steps.{IntervalEnd, AlikeAmong}
 use Rattle.selectors.specs.Words.{values_from}
-use Rattle.policy.specs.Words.{row_words}
-use Rattle.layout.specs.StepsLaws.{among_start, ends_more}
-use borrow.Author.Rules.{rules}
 use Rattle.layout.proofs.intervals.end_of_all.Given as goal
 
 abbrev pub invariant-loop-row : goal.invariant-loop-row

@@ -1,5 +1,4 @@
 -- `layout::intervals::interval_end` meets its contract: one policy after the other. Assumes nothing.
-use borrow.Author.Rules.{rules}
 use Rattle.layout.specs.StepsLaws.{ends_both}
 use Rattle.layout.proofs.intervals.interval_end.Goals as goal
 

@@ -1,6 +1,5 @@
 -- `layout::intervals::range_end` meets its contract: the range is that of the row's words. Assumes nothing.
 use Rattle.layout.specs.StepsLaws.{ends-range}
-use borrow.Author.Rules.{rules}
 use Rattle.layout.proofs.intervals.range_end.Goals as goal
 
 pub returns : goal.returns

@@ -3,7 +3,6 @@
 use mathlib.Core.Path.{sym, ◌∙◌}
 use mathlib.Core.Bool.{false≢true}
 use borrow.Author.Tests.{ltb-false, not-true}
-use borrow.Author.Rules.{rules}
 use Rattle.layout.specs.StepsLaws.{ends_whole, ends_passed, ends-under}
 use Rattle.layout.proofs.intervals.row_end.Goals as goal
 

@@ -2,7 +2,6 @@
 use native.Mathlib.Nat.{le_of_lt, min-eq_left, min-eq_right}
 use mathlib.Core.Path.{sym, ◌∙◌}
 use borrow.Author.Tests.{ltb-true, ltb-false}
-use borrow.Author.Rules.{rules}
 use Rattle.layout.proofs.intervals.smaller.Goals as goal
 
 pub returns-then-less : goal.returns-then-less

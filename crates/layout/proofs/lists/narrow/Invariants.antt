@@ -1,19 +1,10 @@
 -- `layout::lists::narrow` meets its contract. The loop's invariant: the list has those of the first i rows whose ranges hold the value.
 -- The measure is the count of the others. Assumes nothing.
-use Prim.Native.Nat.{◌≤◌, ◌<◌, ◌-◌, ◌/◌}
-use native.Mathlib.Omega.{arith}
-use native.Mathlib.Numerals.{add-one}
-use mathlib.Core.Path.{◌≡◌, sym, ◌∙◌}
-use mathlib.Core.Bool.{Bool, true, false}
-use mathlib.Core.Logic.{inl, inr, ⊎_elim}
-use lib.ListN.{length, get_or, take}
-use lib.Seq.{take-suc}
+use Prim.Native.Nat.{◌≤◌, ◌-◌}
+use lib.ListN.{take}
 use Rattle.selectors.specs.Range.{contains}
 use Rattle.selectors.specs.Value.{number}
-use Rattle.policy.specs.Words.{row_words}
 use Rattle.agree.specs.Sides.{range_of, Takes}
-use Rattle.agree.specs.TakesLaws.{takes_none, takes-next}
-use borrow.Author.Rules.{rules}
 use Rattle.layout.proofs.lists.narrow.Given as goal
 
 abbrev pub invariant-loop-i : goal.invariant-loop-i

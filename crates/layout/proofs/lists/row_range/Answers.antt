@@ -2,7 +2,6 @@
 use native.Mathlib.Omega.{arith}
 use mathlib.Core.Path.{◌∙◌}
 use Prim.Native.Nat.{◌+◌, ◌-◌}
-use borrow.Author.Rules.{rules}
 use Rattle.selectors.specs.Words.{range_words}
 use Rattle.cover.specs.RangesLaws.{ends_lent}
 use Rattle.layout.specs.Decode.{word_of}

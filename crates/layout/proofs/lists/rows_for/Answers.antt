@@ -1,21 +1,13 @@
 -- `layout::lists::rows_for` meets its contract. The loop's invariant: the list has those of the rows before `row` that are for the direction.
 -- The measure is the count of the others. Assumes nothing.
-use Prim.Native.Nat.{◌≤◌, ◌-◌}
 use native.Mathlib.Omega.{arith}
 use mathlib.Core.Path.{◌≡◌, sym, ◌∙◌}
-use mathlib.Core.List.{[]}
-use mathlib.Core.Logic.{inl, inr, ⊎_elim}
-use Rattle.agree.specs.Sides.{Takes}
+use mathlib.Core.Logic.{inl, inr}
 use Rattle.selectors.specs.Words.{values_from}
-use Rattle.layout.specs.Decode.{active}
 use Rattle.layout.specs.Lists.{up_from}
 use Rattle.agree.specs.TakesLaws.{takes_none, takes-next}
 use Rattle.layout.specs.ListsLaws.{rows_more}
 use borrow.Author.Rules.{rules}
-use Rattle.layout.proofs.lists.rows_for.Reads as reads
-use Rattle.layout.proofs.lists.rows_for.Lts as lts
-use Rattle.layout.proofs.lists.active.Reads as active-reads
-use Rattle.layout.proofs.lists.listable.Reads as listable-reads
 use Rattle.layout.proofs.lists.rows_for.Goals as goal
 use Rattle.layout.proofs.lists.rows_for.Goals.{then-active, else-active}
 

@@ -1,6 +1,5 @@
 -- `layout::room::place_stretch` meets its contract, case by case. Assumes nothing.
 use mathlib.Core.Path.{refl}
-use borrow.Author.Rules.{rules}
 use Rattle.layout.specs.StretchesLaws.{placed_rows, placed_again, placed_over}
 use Rattle.layout.proofs.room.place_stretch.Goals as goal
 

@@ -1,5 +1,4 @@
 -- `layout::room::same_block` meets its contract: the counts, and then the rows. Assumes nothing.
-use borrow.Author.Rules.{rules}
 use Rattle.layout.specs.DecodeLaws.{never, blocks_apart}
 use Rattle.layout.proofs.room.same_block.Goals as goal
 

@@ -2,7 +2,6 @@
 use mathlib.Core.Path.{sym, ◌∙◌}
 use borrow.Author.Tests.{not-true, not-false}
 use Rattle.layout.specs.DecodeLaws.{ranges_low, ranges_high}
-use borrow.Author.Rules.{rules}
 use Rattle.layout.proofs.room.same_range.Goals as goal
 
 pub returns-then-not-same : goal.returns-then-not-same

@@ -1,12 +1,8 @@
 -- `layout::room::same_ranges` meets its contract. The loop's invariant: the ranges are the same if those from f on are.
 -- The measure is the count of those. Assumes nothing.
-use Prim.Native.Nat.{◌≤◌, ◌-◌}
-use mathlib.Core.Path.{◌≡◌, sym, ◌∙◌}
-use mathlib.Core.Logic.{◌↔◌}
+use mathlib.Core.Path.{sym, ◌∙◌}
 use borrow.Author.Tests.{not-true, not-false}
 use borrow.Author.Rules.{rules}
-use Rattle.selectors.specs.Words.{field_count}
-use Rattle.layout.specs.Decode.{row_ranges}
 use Rattle.layout.specs.DecodeLaws.{always, never, same_ranges_go, same_ranges_stop, same_ranges_end}
 use Rattle.layout.proofs.room.same_ranges.Goals as goal
 

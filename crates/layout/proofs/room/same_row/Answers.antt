@@ -1,5 +1,4 @@
 -- `layout::room::same_row` meets its contract: the first two words, and then the ranges. Assumes nothing.
-use borrow.Author.Rules.{rules}
 use Rattle.layout.specs.DecodeLaws.{never, same-row_first, same-row_second, same-row_ranges}
 use Rattle.layout.proofs.room.same_row.Goals as goal
 

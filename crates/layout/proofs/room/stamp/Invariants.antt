@@ -1,14 +1,11 @@
 -- `layout::room::stamp` meets its contract. The loop's invariant: the rows from a to `row` are stamped.
 -- The measure is the count of the others. Assumes nothing.
 use Prim.Native.Nat.{◌≤◌, ◌-◌, ◌+◌}
-use native.Mathlib.Omega.{arith}
 use mathlib.Core.Path.{◌≡◌}
 use lib.ListN.{length}
-use borrow.Author.Rules.{rules}
 use Rattle.selectors.specs.Value.{number}
 use Rattle.selectors.specs.Words.{field_count}
 use Rattle.layout.specs.Steps.{Stamped}
-use Rattle.layout.specs.StepsLaws.{stamped_none, stamped_more}
 use Rattle.layout.proofs.room.stamp.Given as goal
 
 abbrev pub invariant-loop-row : goal.invariant-loop-row

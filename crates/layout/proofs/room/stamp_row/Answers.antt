@@ -1,7 +1,6 @@
 -- `layout::room::stamp_row` meets its contract: both ends are written. Assumes nothing.
 use native.Mathlib.Omega.{arith}
 use Rattle.layout.specs.StepsLaws.{stamp-row}
-use borrow.Author.Rules.{rules}
 use Rattle.layout.proofs.room.stamp_row.Goals as goal
 
 pub returns : goal.returns

@@ -1,6 +1,5 @@
 -- `layout::stretches::all_listed` meets its contract. Assumes nothing.
 use mathlib.Core.Bool.{false≢true}
-use borrow.Author.Rules.{rules}
 use Rattle.layout.proofs.stretches.all_listed.Goals as goal
 
 pub returns-then-first-gt-LIMIT : goal.returns-then-first-gt-LIMIT

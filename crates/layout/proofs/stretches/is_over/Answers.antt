@@ -1,5 +1,4 @@
 -- `layout::stretches::is_over` meets its contract, case by case. Assumes nothing.
-use borrow.Author.Rules.{rules}
 use Rattle.layout.specs.Stretches.{is_over}
 use Rattle.layout.proofs.stretches.is_over.Goals as goal
 

@@ -4,7 +4,6 @@ use mathlib.Core.Bool.{false≢true}
 use mathlib.Core.Path.{sym, ◌∙◌}
 use borrow.Author.Tests.{not-false, ltb-true}
 use Prim.Native.Nat.{◌<◌}
-use borrow.Author.Rules.{rules}
 use Rattle.selectors.specs.Value.{number}
 use Rattle.layout.specs.AlikeLaws.{alike_joined}
 use Rattle.layout.specs.FormLaws.{values_length}

@@ -2,7 +2,6 @@
 use native.Mathlib.Omega.{arith}
 use mathlib.Core.Bool.{false≢true}
 use borrow.Author.Tests.{not-false}
-use borrow.Author.Rules.{rules}
 use Rattle.layout.specs.AlikeLaws.{alike_empty}
 use Rattle.layout.specs.FormLaws.{values_length}
 use Rattle.layout.proofs.stretches.known_alike.Goals as goal

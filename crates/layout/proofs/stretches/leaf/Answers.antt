@@ -1,7 +1,6 @@
 -- `layout::stretches::leaf` meets its contract: the two actions agree, or there is no room for a row, or one is written. Assumes nothing.
 use native.Mathlib.Omega.{arith}
 use lib.ListN.{length-set}
-use borrow.Author.Rules.{rules}
 use Rattle.layout.specs.FormLaws.{laid-agreed, laid-full, laid_leaf}
 use Rattle.layout.proofs.stretches.leaf.Goals as goal
 

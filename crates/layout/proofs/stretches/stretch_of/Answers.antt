@@ -1,5 +1,4 @@
 -- `layout::stretches::stretch_of` meets its contract, case by case. Assumes nothing.
-use borrow.Author.Rules.{rules}
 use Rattle.layout.specs.Stretches.{stretch_of}
 use Rattle.layout.proofs.stretches.stretch_of.Goals as goal
 
