@@ -7,22 +7,16 @@ use Rattle.policy_text.specs.Editions.{rules, rows}
 use Rattle.same_policy.specs.declared.Compared.TheVariants.{Same, Different}
 use Rattle.same_policy.specs.Same.{compared}
 use Rattle.same_policy.proofs.SameLaws.{by_agreement}
-use Rattle.same_policy.proofs.compare_rows.Statement.{statement}
-use Rattle.same_policy.proofs.compare_rows.Tie as tie
+use Rattle.same_policy.proofs.compare_rows.Goals as goal
 
+-- MANUAL
 -- The answer, by what `same` says.
 answer : (c : tie.After-same) (b : Bool) → c.same.result ≡ b
     → cond b Same Different ≡ compared c.before.before.before.args.direction (rows (rules c.before.before.before.args.edition (policy_rows c.before.before.before.args.first.now))) (rows (rules c.before.before.before.args.edition (policy_rows c.before.before.before.args.second.now)))
 answer c b e = ap (λ (t : Bool). cond t Same Different) (sym e) ∙ by_agreement _ c.before.before.before.args.edition _ _ c.same.result c.same.ensures
 
-same-requires : tie.Need-same-requires
-same-requires c κs = search rules
+pub returns-then-same : goal.returns-then-same
+returns-then-same c = answer c _ c.if-same.taken
 
-returns : tie.Need-returns
-returns c = answer c.before _ c.if1.taken
-
-returns-2 : tie.Need-returns-2
-returns-2 c = answer c.before _ c.if1.left
-
-pub compare-rows-spec : {M : Type 1} → statement M
-compare-rows-spec = tie.close (tie.spec same-requires returns returns-2)
+pub returns : goal.returns
+returns c = answer c _ c.if-same.left

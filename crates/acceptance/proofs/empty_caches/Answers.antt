@@ -1,0 +1,6 @@
+-- `acceptance::empty_caches` meets its contract. Assumes nothing.
+use borrow.Author.Rules.{rules}
+use Rattle.acceptance.proofs.empty_caches.Goals as goal
+
+pub returns : goal.returns
+returns c = rw (c.empty.ensures, c.empty-2.ensures)
