@@ -1,0 +1,8 @@
+-- `specksonne::specksonne_add` meets its contract: the answer in numbers. Assumes nothing.
+use mathlib.Core.Path.{refl}
+use borrow.Author.Rules.{rules}
+use Rattle.specksonne.proofs.specksonne_add.Goals as goal
+
+pub returns : goal.returns
+returns c =
+    rw (c.outcome_number.ensures, c.add.ensures.0, c.add.ensures.1, c.pair_from-pair.ensures) (record { value = refl; table_after = refl })

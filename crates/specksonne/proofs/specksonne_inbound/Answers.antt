@@ -1,0 +1,9 @@
+-- `specksonne::specksonne_inbound` meets its contract: the answer in numbers, and the cache as it was left in place. Assumes nothing.
+use mathlib.Core.Path.{refl}
+use borrow.Author.Rules.{rules}
+use Rattle.specksonne.proofs.specksonne_inbound.Goals as goal
+
+pub returns : goal.returns
+returns c =
+    rw (c.verdict_number.ensures, c.verdict_carries.ensures, c.inbound-coming_in.ensures.value, c.inbound-coming_in.ensures.cache_after)
+    (refl, (refl, refl))

@@ -1,0 +1,16 @@
+-- `specksonne::specksonne_normalise` meets its contract: the answer in numbers. Assumes nothing.
+use mathlib.Core.Path.{refl}
+use borrow.Author.Rules.{rules}
+use Rattle.specksonne.proofs.specksonne_normalise.Goals as goal
+
+pub returns : goal.returns
+returns c =
+    let e = c.normalise-normalised.ensures in
+    rw (
+      c.normalised_number.ensures,
+      c.normalised_carries.ensures,
+      e.0,
+      e.1,
+      c.direction_from.ensures,
+    )
+    (refl, (refl, refl))

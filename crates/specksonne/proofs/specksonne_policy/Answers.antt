@@ -1,0 +1,19 @@
+-- `specksonne::specksonne_policy` meets its contract: the answer in numbers, and the caches handed back in words. Assumes nothing.
+use mathlib.Core.Path.{refl}
+use borrow.Author.Rules.{rules}
+use Rattle.specksonne.proofs.specksonne_policy.Goals as goal
+
+pub returns : goal.returns
+returns c =
+    let a = c.accept-settled.ensures in
+    rw (
+      c.acceptance_number.ensures,
+      c.acceptance_carries.ensures,
+      c.save-2.ensures,
+      c.save.ensures,
+      a.0,
+      a.1,
+      c.load-2.ensures,
+      c.load.ensures,
+    )
+    (refl, (refl, (refl, (refl, refl))))

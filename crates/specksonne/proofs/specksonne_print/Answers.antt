@@ -1,0 +1,16 @@
+-- `specksonne::specksonne_print` meets its contract: the answer in numbers. Assumes nothing.
+use mathlib.Core.Path.{refl}
+use borrow.Author.Rules.{rules}
+use Rattle.specksonne.proofs.specksonne_print.Goals as goal
+
+pub returns : goal.returns
+returns c =
+    let e = c.print-printed.ensures in
+    rw (
+      c.printed_number.ensures,
+      c.printed_carries.ensures,
+      e.0,
+      e.1,
+      c.direction_from.ensures,
+    )
+    (refl, (refl, refl))

@@ -1,0 +1,7 @@
+-- `specksonne::specksonne_remove` meets its contract: the answer in numbers. Assumes nothing.
+use mathlib.Core.Path.{refl}
+use borrow.Author.Rules.{rules}
+use Rattle.specksonne.proofs.specksonne_remove.Goals as goal
+
+pub returns : goal.returns
+returns c = rw (c.outcome_number.ensures, c.remove.ensures.0, c.remove.ensures.1) (record { value = refl; table_after = refl })
