@@ -1,5 +1,4 @@
 -- `acceptance::empty_caches` meets its contract. Assumes nothing.
-use borrow.Author.Rules.{rules}
 use Rattle.acceptance.proofs.empty_caches.Goals as goal
 
 pub returns : goal.returns

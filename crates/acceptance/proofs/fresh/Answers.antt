@@ -2,7 +2,6 @@
 use mathlib.Core.Path.{◌∙◌}
 use Rattle.policy.specs.Words.{row_limit}
 use Rattle.acceptance.proofs.SpdLaws.{empty-words}
-use borrow.Author.Rules.{rules}
 use Rattle.acceptance.proofs.fresh.Goals as goal
 
 pub returns : goal.returns

@@ -1,12 +1,9 @@
 -- `acceptance::store` meets its contract. The loop's invariant: the first `i` words are written. Assumes nothing.
 use Prim.Native.Nat.{◌≤◌, ◌-◌}
-use native.Mathlib.Omega.{arith}
-use native.Mathlib.Numerals.{add-one}
-use mathlib.Core.Path.{◌≡◌, refl, ◌∙◌}
-use lib.ListN.{length, length-set}
-use lib.Seq.{paste, paste-zero, paste-suc}
+use mathlib.Core.Path.{◌≡◌}
+use lib.ListN.{length}
+use lib.Seq.{paste}
 use Rattle.policy.specs.Words.{policy_words}
-use borrow.Author.Rules.{rules}
 use Rattle.acceptance.proofs.store.Given as goal
 
 abbrev pub invariant-loop-i : goal.invariant-loop-i

@@ -2,7 +2,6 @@
 use Prim.Native.Nat.{ℕ}
 use mathlib.Core.Path.{ap, ◌∙◌}
 use mathlib.Core.List.{List}
-use lib.ListN.{length-set}
 use lib.Seq.{paste}
 use Rattle.selectors.specs.declared.Direction.TheVariants.{In}
 use Rattle.policy.specs.Words.{policy_words, row_limit}
@@ -16,6 +15,6 @@ returns c =
     c.store-2.ensures
     ∙ ap (λ (t : List ℕ). paste t (rows_at row_limit In) c.args.inbound.now policy_words) c.store.ensures
     ∙ held-written row_limit c.args.words.now c.args.address c.args.out_count c.args.in_count c.args.outbound.now c.args.inbound.now
-    (simp length-set at c.store-arg-1.given.1)
+    (search rules)
     (search rules)
     (search rules)
