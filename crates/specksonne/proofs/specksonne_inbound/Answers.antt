@@ -6,4 +6,4 @@ use Rattle.specksonne.proofs.specksonne_inbound.Goals as goal
 pub returns : goal.returns
 returns c =
     rw (c.verdict_number.ensures, c.verdict_carries.ensures, c.inbound-coming_in.ensures.value, c.inbound-coming_in.ensures.cache_after)
-    (refl, (refl, refl))
+    (record { value = refl; carries_after = refl; cache_after = refl })

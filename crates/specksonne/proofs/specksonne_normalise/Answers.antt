@@ -9,8 +9,8 @@ returns c =
     rw (
       c.normalised_number.ensures,
       c.normalised_carries.ensures,
-      e.0,
-      e.1,
+      e.value,
+      e.out_after,
       c.direction_from.ensures,
     )
-    (refl, (refl, refl))
+    (record { value = refl; out_after = refl; carries_after = refl })

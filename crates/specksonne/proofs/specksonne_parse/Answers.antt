@@ -9,7 +9,7 @@ returns c =
     rw (
       c.parsed_number.ensures,
       c.parsed_carries.ensures,
-      e.0,
-      e.1,
+      e.value,
+      e.rows_after,
     )
-    (refl, (refl, refl))
+    (record { value = refl; rows_after = refl; carries_after = refl })

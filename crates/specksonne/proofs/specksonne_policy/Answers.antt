@@ -11,9 +11,9 @@ returns c =
       c.acceptance_carries.ensures,
       c.save-2.ensures,
       c.save.ensures,
-      a.0,
-      a.1,
+      a.value,
+      a.words_after,
       c.load-2.ensures,
       c.load.ensures,
     )
-    (refl, (refl, (refl, (refl, refl))))
+    (record { value = refl; policy_after = refl; outbound_after = refl; inbound_after = refl; carries_after = refl })
