@@ -3,10 +3,9 @@
 
 ghost use Rattle.std.specs.Prelude.{◌≡◌};
 ghost use Rattle.selectors.specs.Range.{address_size, protocol_size, port_size};
-ghost use Rattle.policy_text.specs.Format.{spanned, direction_field};
+ghost use Rattle.policy_text.specs.Format.{AtMost, spanned, direction_field};
 ghost use Rattle.policy_text.specs.Edition1.{address, is_mask, masked_range, address_field, protocol_field, port_end, port_field, action_field, protect};
 ghost use Rattle.policy_fields.specs.Answers.{small, address_for, protocol_for, port_for, direction_for, action_for, entry_for, entry_of};
-ghost use Rattle.policy_text.proofs.FormatLaws.{AtMost};
 
 use policy::Row;
 use policy_text::{Number, after, before, decimal, find, same};

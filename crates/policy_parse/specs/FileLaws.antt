@@ -1,5 +1,5 @@
 -- Laws of policy files: which refusal, or which rows. Assumes nothing.
-use Rattle.std.specs.Prelude.{ℕ, ◌-◌, ◌*◌, ◌≤◌, ◌<◌, ◌≡◌, refl, Bool, true, false, cond, List, ◌++◌, leb, eqb, length, get_or, take, drop}
+use Rattle.std.specs.Prelude.{ℕ, ◌-◌, ◌*◌, ◌≤◌, ◌<◌, ◌≡◌, Bool, true, false, cond, List, ◌++◌, leb, eqb, length, get_or, take, drop}
 use Rattle.std.proofs.Common.{arith, zero-add, sym, ap, ◌∙◌}
 use Rattle.std.proofs.Math.Option.{Option, none, some}
 use Rattle.std.proofs.lemmas.List.Edits.{sets-eq}
@@ -12,7 +12,7 @@ use Rattle.policy_text.specs.declared.Edition.TheVariants.{One}
 use Rattle.policy_text.specs.declared.File.{File}
 use Rattle.policy_text.specs.declared.File.TheVariants.{Rows, Refused}
 use Rattle.policy_text.specs.declared.Parsed.TheVariants.{Rows as RoomRows, NoRoom}
-use Rattle.policy_text.specs.declared.Refusal.TheVariants.{NotHeader, NotEnded, TooMany, BadRow}
+use Rattle.policy_text.specs.declared.Refusal.TheVariants.{NotHeader, NotEnded, TooMany}
 use Rattle.policy_text.specs.Bytes.{lf, are_same_bytes}
 use Rattle.policy_text.specs.Format.{lines_of, Lines, all_rows, bad_row, rows_of}
 use Rattle.policy_text.specs.Edition1.{header, edition1}

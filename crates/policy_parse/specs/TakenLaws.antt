@@ -1,6 +1,6 @@
 -- What the parser's answer says of a policy file: it was taken, and its rows stand in the room, or it was refused. Assumes nothing.
 use Rattle.std.specs.Prelude.{ℕ, ◌*◌, ◌≤◌, ◌≡◌, List, length, take, drop}
-use Rattle.std.proofs.Common.{arith, sym, ◌∙◌, length-append, take_at}
+use Rattle.std.proofs.Common.{arith, ◌∙◌, length-append, take_at}
 use Rattle.policy.specs.Policy.{PolicyRow}
 use Rattle.policy.specs.Words.{row_words, policy_rows, words_of}
 use Rattle.policy.proofs.WrittenLaws.{FiveEach, words-length, words_rows}

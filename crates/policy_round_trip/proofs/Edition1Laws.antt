@@ -1,5 +1,5 @@
 -- Edition 1 obeys the laws of an edition. Assumes nothing.
-use Rattle.std.specs.Prelude.{ℕ, suc, ◌+◌, ◌-◌, ◌≤◌, ◌<◌, ◌%◌, ◌^◌, ◌≡◌, refl, Bool, true, false, cond, List, ◌∷◌, ◌++◌, eqb, length, take}
+use Rattle.std.specs.Prelude.{ℕ, ◌+◌, ◌-◌, ◌≤◌, ◌<◌, ◌%◌, ◌^◌, ◌≡◌, refl, Bool, true, false, cond, List, eqb, length, take}
 use Rattle.std.proofs.Common.{arith, ne_eqb}
 use Rattle.std.proofs.Math.Decide.{ℕ_discrete}
 use Rattle.std.proofs.Math.Option.{none, some}
@@ -11,10 +11,10 @@ use Rattle.policy_text.specs.declared.Number.{Number}
 use Rattle.policy_text.specs.declared.Number.TheVariants.{Is, Bad}
 use Rattle.policy_text.specs.Bytes.{tab, lf, dash, slash, index, has, before, after, count, are_same_bytes}
 use Rattle.policy_text.specs.Decimals.{decimal, decimal_text}
-use Rattle.policy_text.specs.Format.{any}
+use Rattle.policy_text.specs.Format.{AtMost, any}
 use Rattle.policy_text.specs.Print.{range_text}
 use Rattle.policy_text.specs.Edition1.{header, opaque_word, bypass_word, discard_word, protect_word, address, is_mask, masked_range, address_field, protocol_field, port_end, port_field, protect, action_field, lower, address_text, protocol_text, port_text, action_text, addresses, protocols, ports, edition1}
-use Rattle.policy_text.proofs.FormatLaws.{AtMost, decimal_at_most}
+use Rattle.policy_text.proofs.FormatLaws.{decimal_at_most}
 use Rattle.policy_text.proofs.PrintLaws.{decimal-length}
 use Rattle.policy_round_trip.proofs.CutsLaws.{has_none}
 use Rattle.policy_round_trip.proofs.DecimalsLaws.{decimal_back, decimal-without, decimal_no_word, address_back, address-without, address-length}

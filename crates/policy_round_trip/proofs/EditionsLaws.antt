@@ -1,14 +1,14 @@
 -- Every edition obeys the laws, and a file is of the edition whose header line it begins with. Assumes nothing.
-use Rattle.std.specs.Prelude.{ℕ, ◌≡◌, refl, Bool, true, false, cond, ◌⊎◌, length, take, drop}
+use Rattle.std.specs.Prelude.{ℕ, ◌≡◌, refl, Bool, true, false, ◌⊎◌, length, take, drop}
 use Rattle.std.proofs.Common.{arith, sym, ap, ◌∙◌, inl, inr, take-append-drop}
 use Rattle.std.proofs.lemmas.Bool.{false≢true}
 use mathlib.Core.List.Memᴰ
 use mathlib.Core.List.{List, [], ◌∷◌, ◌++◌, append_assoc, Memᴰ}
-use Rattle.std.proofs.Math.Option.{Option, some}
+use Rattle.std.proofs.Math.Option.{some}
 use Rattle.std.proofs.Math.Seq.{take-append_seam}
 use Rattle.policy_text.specs.declared.Edition.{Edition}
 use Rattle.policy_text.specs.declared.Edition.TheVariants.{One}
-use Rattle.policy_text.specs.Bytes.{lf, before, are_same_bytes}
+use Rattle.policy_text.specs.Bytes.{lf, before}
 use Rattle.policy_text.proofs.BytesLaws.{same_bytes, same_self}
 use Rattle.policy_text.specs.Editions.{format_of, editions, headed, edition_among, edition_of}
 use Rattle.policy_round_trip.proofs.CutsLaws.{before_seam}

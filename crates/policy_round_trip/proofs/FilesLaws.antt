@@ -12,7 +12,7 @@ use Rattle.policy_text.specs.Format.{Format, lines_of, all_rows, rows_of}
 use Rattle.policy_text.specs.Print.{row_text, rows_text, policy_text}
 use Rattle.policy_text.specs.Editions.{format_of, body_of, rules, rows, policy_of, parse_policy}
 use Rattle.policy_round_trip.proofs.CutsLaws.{count-append, before_seam, after_seam}
-use Rattle.policy_round_trip.specs.Lawful.{HeaderLine, Lawful, Printable}
+use Rattle.policy_round_trip.specs.Lawful.{Lawful, Printable}
 use Rattle.policy_round_trip.proofs.RowsLaws.{row_back, row_one_line}
 use Rattle.policy_round_trip.proofs.EditionsLaws.{lawful, edition-found}
 

@@ -1,7 +1,7 @@
 -- How long printed files are. Assumes nothing.
-use Rattle.std.specs.Prelude.{ℕ, ◌+◌, ◌*◌, ◌≤◌, ◌≡◌, true, List, [], ◌∷◌, length}
+use Rattle.std.specs.Prelude.{ℕ, ◌+◌, ◌*◌, ◌≤◌, List, [], ◌∷◌, length}
 use Rattle.std.proofs.Common.{arith, length-append}
-use Rattle.selectors.specs.Range.{Range, in_field, address_size, protocol_size, port_size}
+use Rattle.selectors.specs.Range.{Range, address_size, protocol_size, port_size}
 use Rattle.selectors.specs.declared.Direction.TheVariants.{Out, In}
 use Rattle.normal_form.proofs.ShapeLaws.{Fits}
 use Rattle.policy.specs.declared.Action.{Action}

@@ -1,8 +1,8 @@
 -- Rows of any edition, printed and read. Assumes nothing.
-use Rattle.std.specs.Prelude.{ℕ, suc, ◌≡◌, refl, true, List, [], ◌∷◌, ◌++◌}
+use Rattle.std.specs.Prelude.{ℕ, suc, ◌≡◌, refl, List, [], ◌∷◌, ◌++◌}
 use Rattle.std.proofs.Common.{ap, ◌∙◌, append-nil}
 use Rattle.std.proofs.Math.Option.{some}
-use Rattle.selectors.specs.Range.{Range, in_field}
+use Rattle.selectors.specs.Range.{Range}
 use Rattle.selectors.specs.declared.Direction.TheVariants.{Out, In}
 use Rattle.normal_form.proofs.ShapeLaws.{Fits}
 use Rattle.policy.specs.declared.RowDirection.{RowDirection}
@@ -83,7 +83,11 @@ fields_one_line [] l [] f = refl
 fields_one_line [] l (r ∷ rs) f = absurd f
 fields_one_line (g ∷ gs) l [] f = absurd f
 fields_one_line (g ∷ gs) l (r ∷ rs) f =
-    rw (count-append, (l.0.range_clean r).no-lf, fields_one_line gs l.1 rs f.2)
+    rw (
+      count-append lf (range_text g.size g.value_text r) (fields_text gs rs),
+      (l.0.range_clean r).no-lf,
+      fields_one_line gs l.1 rs f.2,
+    )
 
 -- A row's text has no LF.
 pub row_one_line : (f : Format) → Lawful f → (r : PolicyRow) → Printable f r → count lf (row_text f r) ≡ 0

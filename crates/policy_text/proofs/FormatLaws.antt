@@ -10,6 +10,7 @@ use Rattle.policy_text.specs.declared.Number.TheVariants.{Is, Bad}
 use Rattle.policy_text.specs.Bytes.{dot, before, after}
 use Rattle.policy_text.proofs.BytesLaws.{left_more, left_none}
 use Rattle.policy_text.specs.Decimals.{digits, value, unpadded, decimal}
+use Rattle.policy_text.specs.Format.{AtMost}
 use Rattle.policy_text.specs.Edition1.{four_octets, address, mask_below}
 
 module _ (s : List ℕ) (i : ℕ) where
@@ -106,11 +107,6 @@ mask_next m (suc k) h n =
 pub mask_none : (m z : ℕ) → z ≤ 0 → mask_below z m ≡ false
 unfolding mask_below
 mask_none m z h = let e : z ≡ zero = omega arith in rw e
-
--- A number of at most max, or none.
-abbrev pub AtMost : ℕ → Number → Type 0
-AtMost max Bad = Unit
-AtMost max (Is n) = n ≤ max
 
 at_most_if : (max : ℕ) (t : Bool) (n : ℕ) → (t ≡ true → n ≤ max) → AtMost max (cond t (Is n) Bad)
 at_most_if max true n f = f refl

@@ -1,5 +1,5 @@
 -- What an edition of the policy file is, and its rows, read (document 01; docs/RULES.md has them with examples). Assumes nothing: these are definitions.
-use Rattle.std.specs.Prelude.{ℕ, zero, suc, ◌+◌, cond, List, [], ◌∷◌}
+use Rattle.std.specs.Prelude.{ℕ, zero, suc, ◌+◌, ◌≤◌, cond, List, [], ◌∷◌}
 use Rattle.std.proofs.Math.Option.{Option, none, some}
 use Rattle.selectors.specs.Range.{Range, range, in_field}
 use Rattle.selectors.specs.declared.Direction.TheVariants.{Out, In}
@@ -44,6 +44,11 @@ in_word = 105 ∷ 110 ∷ []
 
 abbrev pub both_word : List ℕ
 both_word = 98 ∷ 111 ∷ 116 ∷ 104 ∷ []
+
+-- A number of at most max, or none.
+abbrev pub AtMost : ℕ → Number → Type 0
+AtMost max Bad = Unit
+AtMost max (Is n) = n ≤ max
 
 -- The range from low to high: 'low at most high', and both values of a field of that size.
 abbrev pub made : ℕ → ℕ → ℕ → Option Range

@@ -1,0 +1,10 @@
+-- `policy_print::put_protocol_field` meets its contract. Assumes nothing.
+use native.Mathlib.Omega.{arith}
+use Rattle.policy_print.specs.PrintingLaws.{put_then}
+use Rattle.policy_print.proofs.put_protocol_field.Goals as goal
+
+pub put_protocol_range-requires : goal.put_protocol_range-requires
+put_protocol_range-requires c = rw (c.value_at-low.ensures, c.value_at-high.ensures) (omega (arith, c.put-next.ensures.place, c.requires.1))
+
+pub returns : goal.returns
+returns c = rw (c.value_at-low.ensures, c.value_at-high.ensures) at (put_then c.put-next.ensures c.put_protocol_range.ensures)
