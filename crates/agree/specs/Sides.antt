@@ -1,7 +1,7 @@
 -- Two ordered lists of rows as the sides of one list of entries, and what is asked of an entry. Assumes nothing: these are definitions.
 -- An entry is the code of a row (crates/cover/specs/Boxes.antt). Behind the entries stands the end row, which is on both sides, holds
 -- everything and discards.
-use Rattle.std.specs.Prelude.{ℕ, zero, suc, ◌+◌, ◌-◌, ◌*◌, ◌/◌, ◌%◌, ◌≤◌, ◌<◌, ◌≡◌, Bool, true, false, not, cond, List, [], ◌∷◌, map, ◌≢◌, ◌⊎◌, eqb, ltb, length, get_or, take}
+use Rattle.std.specs.Prelude.{ℕ, zero, suc, ◌+◌, ◌*◌, ◌/◌, ◌%◌, ◌≤◌, ◌<◌, ◌≡◌, Bool, true, false, not, cond, List, [], ◌∷◌, map, ◌≢◌, ◌⊎◌, eqb, ltb, length, get_or, take}
 use Rattle.selectors.specs.Range.{Range, contains}
 use Rattle.selectors.specs.Words.{range_words, range_at}
 use Rattle.normal_form.specs.Search.{Row, row, find}

@@ -1,5 +1,5 @@
 -- Laws of two sides: what a test of an entry says, and that sides agree where no entry of one of them clashes. Assumes nothing.
-use Rattle.std.specs.Prelude.{ℕ, zero, suc, ◌+◌, ◌*◌, ◌/◌, ◌%◌, ◌≤◌, ◌<◌, ◌≡◌, Bool, not, cond, List, ◌≢◌, ◌⊎◌, eqb, length, get_or, set}
+use Rattle.std.specs.Prelude.{ℕ, zero, suc, ◌+◌, ◌/◌, ◌%◌, ◌≤◌, ◌<◌, ◌≡◌, Bool, not, cond, List, ◌≢◌, ◌⊎◌, eqb, length, get_or, set}
 use Rattle.std.proofs.Common.{arith, sym, ◌∙◌, ⊎_elim, get_or-set_other, lt-ltb, le-ltb, eqb-true}
 use Rattle.std.proofs.Math.Decide.{dec_lt, ℕ_discrete}
 use Rattle.std.proofs.Math.Nat.{div-div-eq-div-mul}

@@ -1,16 +1,15 @@
 -- The words of a normal form: what a layout leaves is these, and they are read as the normal form's rows. Assumes nothing.
-use Rattle.std.specs.Prelude.{ℕ, zero, suc, ◌+◌, ◌*◌, ◌/◌, ◌^◌, ◌≤◌, ◌<◌, ◌≡◌, refl, Bool, true, false, cond, leb, length, get_or, take, drop}
-use Rattle.std.proofs.Common.{arith, add_assoc, add-zero, zero-add, sym, ap, ◌∙◌, lit≤, length-append, drop-cons, get_or-drop, drop-drop, take-add}
+use Rattle.std.specs.Prelude.{ℕ, zero, suc, ◌+◌, ◌*◌, ◌≤◌, ◌<◌, ◌≡◌, refl, Bool, true, false, cond, leb, length, get_or, take, drop}
+use Rattle.std.proofs.Common.{arith, sym, ap, ◌∙◌, drop-drop, take-add}
 use Rattle.std.proofs.Math.Decide.{dec_le}
-use mathlib.Core.List.{List, [], ◌∷◌, ◌++◌, map, Memᴰ}
+use mathlib.Core.List.{List, [], ◌∷◌, map, Memᴰ}
 use Rattle.std.proofs.lemmas.List.{length-map}
 use borrow.Author.Tests.{leb-true, le-leb, lt-leb}
-use Rattle.selectors.specs.Range.{Range}
 use Rattle.selectors.specs.Value.{number}
 use Rattle.selectors.specs.Words.{value_at, ranges_at}
 use Rattle.selectors.proofs.WordsLaws.{AllWords}
 use Rattle.selectors.specs.declared.Direction.{Direction}
-use Rattle.normal_form.specs.Search.{Row, row, Combination}
+use Rattle.normal_form.specs.Search.{Row, Combination}
 use Rattle.normal_form.proofs.ShapeLaws.{Fits, fits-length, normal_form_fits}
 use Rattle.normal_form.proofs.MapLaws.{map_leaf}
 use Rattle.policy.specs.declared.Action.{Action}
@@ -28,7 +27,7 @@ use Rattle.policy_text.proofs.EditionsLaws.{five_fields}
 use Rattle.layout.specs.Parting.{difference_form}
 use Rattle.layout.specs.PartingLaws.{action_leaf, difference_empty}
 use Rattle.layout.specs.Decode.{sizes_from}
-use Rattle.layout.specs.Laid.{laid_row, laid_from, laid_rows, sizes_of, room_for, Outcome}
+use Rattle.layout.specs.Laid.{laid_row, laid_from, sizes_of, room_for, Outcome}
 use Rattle.layout.specs.declared.Point.{Point}
 use Rattle.layout.specs.declared.Laid.{Laid}
 use Rattle.layout.specs.declared.Laid.TheVariants.{Rows, Over, NoRoom}

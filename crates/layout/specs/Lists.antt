@@ -4,7 +4,7 @@ use Rattle.selectors.specs.Range.{contains}
 use Rattle.selectors.specs.Words.{field_count, value_words, values_from}
 use Rattle.selectors.specs.declared.Direction.{Direction}
 use Rattle.policy.specs.Words.{row_words, row_limit}
-use Rattle.agree.specs.Sides.{range_of, those, There, Takes}
+use Rattle.agree.specs.Sides.{range_of, There, Takes}
 use Rattle.layout.specs.Decode.{active}
 use Rattle.layout.specs.Steps.{AlikeTo, SearchAlike}
 use Rattle.layout.specs.declared.Branch.{Branch}

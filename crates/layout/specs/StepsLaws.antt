@@ -1,5 +1,5 @@
 -- Laws of what the layout's steps leave. Assumes nothing.
-use Rattle.std.specs.Prelude.{ℕ, zero, suc, ◌+◌, ◌-◌, ◌*◌, ◌≤◌, ◌<◌, min, ◌≡◌, refl, List, ◌++◌, map, ◌≢◌, length, get_or}
+use Rattle.std.specs.Prelude.{ℕ, zero, suc, ◌+◌, ◌-◌, ◌*◌, ◌≤◌, ◌<◌, min, ◌≡◌, refl, List, ◌++◌, map, ◌≢◌, length}
 use native.Mathlib.Omega.{arith}
 use Rattle.std.proofs.Math.Decide.{dec_lt}
 use Rattle.std.proofs.Math.Nat.{min-le_left, min-le_right, le-min}
@@ -16,7 +16,7 @@ use Rattle.selectors.specs.Words.{field_count, range_words, value_at, ends_at, r
 use Rattle.selectors.specs.declared.Direction.{Direction}
 use Rattle.selectors.specs.declared.Ends.{Ends}
 use Rattle.selectors.specs.declared.Value.{Value}
-use Rattle.normal_form.specs.Search.{Row, row}
+use Rattle.normal_form.specs.Search.{Row}
 use Rattle.normal_form.specs.NormalForm.{under}
 use Rattle.policy.specs.Words.{row_words}
 use Rattle.cover.specs.RangesLaws.{written_range, range-words, low_own, high_own}

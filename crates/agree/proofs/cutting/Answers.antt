@@ -1,6 +1,5 @@
 -- `agree::cutting` meets its contract. Of a list that is too long, and of no field, nothing is said. Assumes nothing.
 use native.Mathlib.Omega.{arith}
-use borrow.Author.Rules.{rules}
 use Rattle.agree.proofs.cutting.Goals as goal
 
 pub returns-then-total-gt-LIMIT : goal.returns-then-total-gt-LIMIT

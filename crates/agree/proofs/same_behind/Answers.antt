@@ -3,7 +3,6 @@ use native.Mathlib.Omega.{arith}
 use mathlib.Core.Path.{refl}
 use mathlib.Core.Bool.{false≢true}
 use Rattle.agree.specs.EntriesLaws.{alike_of, alike_empty}
-use borrow.Author.Rules.{rules}
 use borrow.Author.Tests.{not-false}
 use Rattle.agree.proofs.same_behind.Goals as goal
 
@@ -17,7 +16,7 @@ pub returns-then-not-there : goal.returns-then-not-there
 returns-then-not-there c = λ e. absurd (false≢true e)
 
 pub cut_entries-count-requires : goal.cut_entries-count-requires
-cut_entries-count-requires c = ((omega arith, c.there.ensures (not-false _ c.if-not-there.false-raw)), refl)
+cut_entries-count-requires c = record { field_lt_field_count = (omega arith, c.there.ensures (not-false _ c.if-not-there.false-raw)); entries_len = refl }
 
 pub agreed-requires : goal.agreed-requires
 agreed-requires c = c.cut_entries-count.ensures.fits

@@ -1,15 +1,7 @@
 -- `agree::agreement::agreed` meets its contract. The loop's invariant: none of the entries before `row` that are on one side only makes a difference.
 -- The measure is the count of the others. Assumes nothing.
 use Prim.Native.Nat.{ℕ, ◌≤◌, ◌<◌, ◌-◌}
-use native.Mathlib.Omega.{arith}
-use mathlib.Core.Path.{◌≡◌}
-use mathlib.Core.Bool.{false≢true}
-use mathlib.Core.Logic.{⊎_elim}
-use borrow.Author.Tests.{not-false}
-use borrow.Author.Count.{below_none, below_more}
-use borrow.Author.Rules.{rules}
 use Rattle.agree.specs.Sides.{sides, SameSides}
-use Rattle.agree.specs.SidesLaws.{same_none, same_lone, sides_agree}
 use Rattle.agree.proofs.agreement.agreed.Given as goal
 
 abbrev pub invariant-loop-row : goal.invariant-loop-row

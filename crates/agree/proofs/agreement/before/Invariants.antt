@@ -1,13 +1,9 @@
 -- `agree::agreement::before` meets its contract. The loop's invariant: the listed codes are those of entries before j. The measure is the count of
 -- the others. Assumes nothing.
 use Prim.Native.Nat.{◌≤◌, ◌-◌}
-use native.Mathlib.Omega.{arith}
-use mathlib.Core.Path.{◌≡◌, refl}
-use mathlib.Core.Logic.{inl, inr, ⊎_elim}
-use lib.ListN.{length, length-set}
-use borrow.Author.Rules.{rules}
+use mathlib.Core.Path.{◌≡◌}
+use lib.ListN.{length}
 use Rattle.agree.specs.Sides.{Before}
-use Rattle.agree.specs.SidesLaws.{before_none, before-next}
 use Rattle.agree.proofs.agreement.before.Given as goal
 
 abbrev pub invariant-loop-j : goal.invariant-loop-j

@@ -2,7 +2,6 @@
 use native.Mathlib.Omega.{arith}
 use mathlib.Core.Path.{sym, ◌∙◌}
 use mathlib.Core.Bool.{false≢true}
-use borrow.Author.Rules.{rules}
 use Rattle.agree.specs.SidesLaws.{earlier_other, earlier_own}
 use Rattle.agree.proofs.agreement.comes_first.Goals as goal
 

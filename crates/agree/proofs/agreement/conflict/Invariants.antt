@@ -1,10 +1,7 @@
 -- `agree::agreement::conflict` meets its contract. The loop's invariant: there is peace from `from` to k. The measure is the count of the entries not
 -- looked at. Assumes nothing.
 use Prim.Native.Nat.{suc, ◌≤◌, ◌-◌}
-use native.Mathlib.Omega.{arith}
-use borrow.Author.Rules.{rules}
 use Rattle.agree.specs.Sides.{sides, Peace}
-use Rattle.agree.specs.SidesLaws.{peace_none, peace_more, peace_ended}
 use Rattle.agree.proofs.agreement.conflict.Given as goal
 
 abbrev pub invariant-loop-k : goal.invariant-loop-k

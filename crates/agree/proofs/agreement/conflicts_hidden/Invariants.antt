@@ -1,13 +1,7 @@
 -- `agree::agreement::conflicts_hidden` meets its contract. The loop's invariant: there is peace from `from` to k. The measure is the count of the entries not
 -- looked at. Assumes nothing.
 use Prim.Native.Nat.{suc, ◌≤◌, ◌-◌}
-use native.Mathlib.Omega.{arith}
-use mathlib.Core.Path.{sym, ◌∙◌}
-use mathlib.Core.Bool.{false≢true}
-use borrow.Author.Tests.{not-true, not-false}
-use borrow.Author.Rules.{rules}
 use Rattle.agree.specs.Sides.{sides, Peace}
-use Rattle.agree.specs.SidesLaws.{passed_hidden, peace_none, peace-on, peace_end}
 use Rattle.agree.proofs.agreement.conflicts_hidden.Given as goal
 
 abbrev pub invariant-loop-k : goal.invariant-loop-k

@@ -1,14 +1,8 @@
 -- `agree::cuts::acting` meets its contract. The loop's invariant: the list has those of the first i rows that do not discard.
 -- The measure is the count of the others. Assumes nothing.
 use Prim.Native.Nat.{◌≤◌, ◌-◌}
-use native.Mathlib.Omega.{arith}
-use mathlib.Core.Path.{◌≡◌, sym, ◌∙◌}
-use mathlib.Core.Logic.{inl, inr, ⊎_elim}
 use lib.ListN.{take}
 use Rattle.agree.specs.Sides.{does_act, Takes}
-use Rattle.agree.specs.EntriesLaws.{take_more}
-use Rattle.agree.specs.TakesLaws.{takes_none, takes-next}
-use borrow.Author.Rules.{rules}
 use Rattle.agree.proofs.cuts.acting.Given as goal
 
 abbrev pub invariant-loop-i : goal.invariant-loop-i

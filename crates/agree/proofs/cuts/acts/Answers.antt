@@ -1,5 +1,4 @@
 -- `agree::cuts::acts` meets its contract: the row's action is read. Assumes nothing.
-use borrow.Author.Rules.{rules}
 use Rattle.agree.proofs.cuts.acts.Goals as goal
 
 pub returns : goal.returns

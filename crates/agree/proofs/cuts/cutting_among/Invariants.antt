@@ -1,11 +1,7 @@
 -- `agree::cuts::cutting_among` meets its contract. The loop's invariant: the list has some of the first i rows, and all of them that do not discard or
 -- may be met by a listed row. The measure is the count of the others. Assumes nothing.
 use Prim.Native.Nat.{◌≤◌, ◌-◌}
-use native.Mathlib.Omega.{arith}
-use mathlib.Core.Path.{◌≡◌}
-use mathlib.Core.Logic.{inl, inr, ⊎_elim}
-use Rattle.agree.specs.CuttingLaws.{Chosen, Idle, chosen_none, chosen-next, cutting_of}
-use borrow.Author.Rules.{rules}
+use Rattle.agree.specs.CuttingLaws.{Chosen, Idle}
 use Rattle.agree.proofs.cuts.cutting_among.Given as goal
 
 abbrev pub invariant-loop-i : goal.invariant-loop-i

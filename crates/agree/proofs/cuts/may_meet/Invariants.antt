@@ -1,14 +1,8 @@
 -- `agree::cuts::may_meet` meets its contract. The loop's invariant: the row is apart from the first k listed rows. The measure is the count of the
 -- others. Assumes nothing.
 use Prim.Native.Nat.{ℕ, ◌≤◌, ◌<◌, ◌-◌}
-use native.Mathlib.Omega.{arith}
-use mathlib.Core.Path.{sym}
-use mathlib.Core.Bool.{false≢true}
 use lib.ListN.{get_or}
-use borrow.Author.Count.{below_more}
-use borrow.Author.Tests.{not-false}
 use Rattle.cover.specs.Boxes.{RowsApart}
-use borrow.Author.Rules.{rules}
 use Rattle.agree.proofs.cuts.may_meet.Given as goal
 
 abbrev pub invariant-loop-k : goal.invariant-loop-k

@@ -1,6 +1,5 @@
 -- `agree::entries::code_action` meets its contract. By the policy that the code names. Assumes nothing.
 use mathlib.Core.Path.{sym, ◌∙◌}
-use borrow.Author.Rules.{rules}
 use Rattle.agree.proofs.entries.code_action.Goals as goal
 
 pub returns-then-in_second : goal.returns-then-in_second

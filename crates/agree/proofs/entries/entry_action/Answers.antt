@@ -1,6 +1,5 @@
 -- `agree::entries::entry_action` meets its contract. By whether it is the end row. Assumes nothing.
 use mathlib.Core.Path.{sym, ◌∙◌}
-use borrow.Author.Rules.{rules}
 use Rattle.agree.specs.SidesLaws.{action_entry, action_end}
 use Rattle.agree.proofs.entries.entry_action.Goals as goal
 

@@ -1,6 +1,5 @@
 -- `agree::entries::entry_apart` meets its contract. By whether it is the end row. Assumes nothing.
 use mathlib.Core.Bool.{false≢true}
-use borrow.Author.Rules.{rules}
 use Rattle.agree.specs.SidesLaws.{apart_entry}
 use Rattle.agree.proofs.entries.entry_apart.Goals as goal
 

@@ -1,5 +1,4 @@
 -- `agree::entries::entry_common` meets its contract. By whether it is the end row. Assumes nothing.
-use borrow.Author.Rules.{rules}
 use Rattle.agree.specs.SidesLaws.{common_entry, common_all}
 use Rattle.agree.proofs.entries.entry_common.Goals as goal
 

@@ -1,5 +1,4 @@
 -- `agree::entries::entry_covers` meets its contract. By whether it is the end row. Assumes nothing.
-use borrow.Author.Rules.{rules}
 use Rattle.agree.specs.SidesLaws.{covers_entry, covers_end}
 use Rattle.agree.proofs.entries.entry_covers.Goals as goal
 

@@ -1,6 +1,5 @@
 -- `agree::entries::entry_on` meets its contract. By whether it is the end row. Assumes nothing.
 use mathlib.Core.Path.{sym, ◌∙◌}
-use borrow.Author.Rules.{rules}
 use Rattle.agree.specs.SidesLaws.{on-entry, on_end}
 use Rattle.agree.proofs.entries.entry_on.Goals as goal
 

@@ -1,8 +1,6 @@
 -- `agree::merging::ahead` is safe and ends. The loop's invariant: k is not before `from`. The measure is the count of the places not looked at.
 -- Assumes nothing.
 use Prim.Native.Nat.{◌≤◌, ◌-◌}
-use native.Mathlib.Omega.{arith}
-use borrow.Author.Rules.{rules}
 use Rattle.agree.proofs.merging.ahead.Given as goal
 
 abbrev pub invariant-loop-k : goal.invariant-loop-k

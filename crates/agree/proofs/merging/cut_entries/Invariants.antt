@@ -1,16 +1,12 @@
 -- `agree::merging::cut_entries` meets its contract. The loop's invariant: the entries so far are those of the first i rows of the list.
 -- The measure is the count of the others. Assumes nothing.
 use Prim.Native.Nat.{◌≤◌, ◌-◌, ◌*◌}
-use native.Mathlib.Omega.{arith}
 use mathlib.Core.Path.{◌≡◌}
-use mathlib.Core.Logic.{inl, inr, ⊎_elim}
-use lib.ListN.{length, get_or, take}
+use lib.ListN.{length, take}
 use Rattle.selectors.specs.Range.{contains}
 use Rattle.selectors.specs.Value.{number}
 use Rattle.policy.specs.Words.{row_limit}
 use Rattle.agree.specs.Sides.{range_of, those, SideRows}
-use Rattle.agree.specs.EntriesLaws.{take_more, cut_none, cut-next, sides-small}
-use borrow.Author.Rules.{rules}
 use Rattle.agree.proofs.merging.cut_entries.Given as goal
 
 abbrev pub invariant-loop-i : goal.invariant-loop-i

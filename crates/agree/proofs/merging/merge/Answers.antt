@@ -1,11 +1,7 @@
 -- `agree::merging::merge` meets its contract. The loop's invariant: the entries so far are those of the first i and j rows of the lists.
 -- The measure is the count of the others. Assumes nothing.
-use Prim.Native.Nat.{◌+◌, ◌*◌, ◌≤◌, ◌-◌}
 use native.Mathlib.Omega.{arith}
 use mathlib.Core.Path.{◌≡◌}
-use lib.ListN.{length, take}
-use Rattle.policy.specs.Words.{row_limit}
-use Rattle.agree.specs.Sides.{SideRows}
 use Rattle.agree.specs.EntriesLaws.{merge_none, merge-next, next_known, step_first, step_second, step_some}
 use borrow.Author.Rules.{rules}
 use Rattle.agree.proofs.merging.merge.Goals as goal

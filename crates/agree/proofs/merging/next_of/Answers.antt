@@ -5,7 +5,6 @@ use native.Mathlib.Omega.{arith}
 use lib.ListN.{length}
 use Rattle.policy.specs.Words.{row_words}
 use Rattle.agree.specs.EntriesLaws.{next_first, next_second, next_both}
-use borrow.Author.Rules.{rules}
 use Rattle.agree.proofs.merging.next_of.Goals as goal
 
 pub returns-then-firsts-i : goal.returns-then-firsts-i

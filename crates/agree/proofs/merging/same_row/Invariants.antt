@@ -1,14 +1,9 @@
 -- `agree::merging::same_row` meets its contract. The loop's invariant: the words before k, from the action on, are the same. The measure is the
 -- count of the others. Assumes nothing.
 use Prim.Native.Nat.{ℕ, ◌+◌, ◌*◌, ◌≤◌, ◌<◌, ◌-◌}
-use native.Mathlib.Omega.{arith}
 use mathlib.Core.Path.{◌≡◌}
-use mathlib.Core.Bool.{false≢true}
 use lib.ListN.{get_or}
-use borrow.Author.Count.{below_more}
 use Rattle.policy.specs.Words.{row_words}
-use Rattle.agree.specs.EntriesLaws.{row_same}
-use borrow.Author.Rules.{rules}
 use Rattle.agree.proofs.merging.same_row.Given as goal
 
 abbrev pub invariant-loop-k : goal.invariant-loop-k

@@ -2,7 +2,6 @@
 use mathlib.Core.Path.{sym, ◌∙◌}
 use mathlib.Core.Bool.{true, false}
 use Rattle.agree.specs.EntriesLaws.{sides_read}
-use borrow.Author.Rules.{rules}
 use Rattle.agree.proofs.merging.sides_of.Goals as goal
 
 pub returns-then-holds-2 : goal.returns-then-holds-2

@@ -1,11 +1,8 @@
 -- `agree::merging::there` meets its contract. The loop's invariant: the first i places are those of rows. The measure is the count of the others.
 -- Assumes nothing.
-use Prim.Native.Nat.{ℕ, ◌≤◌, ◌<◌, ◌-◌, ◌/◌}
 use native.Mathlib.Omega.{arith}
 use mathlib.Core.Bool.{false≢true}
-use lib.ListN.{length, get_or}
 use borrow.Author.Count.{below_more}
-use Rattle.policy.specs.Words.{row_words}
 use borrow.Author.Rules.{rules}
 use Rattle.agree.proofs.merging.there.Goals as goal
 
@@ -22,4 +19,4 @@ pub loop-i-preserved : goal.loop-i-preserved
 loop-i-preserved c = (search rules, below_more _ _ c.loop-i.invariant.1 (omega (arith, c.wide.ensures)))
 
 pub returns : goal.returns
-returns c = λ e. record { fits = omega arith; sized = c.places-1.given.0; places = λ k h. c.loop-i.invariant.1 k (omega arith) }
+returns c = λ e. record { fits = omega arith; sized = (search rules); places = λ k h. c.loop-i.invariant.1 k (omega arith) }

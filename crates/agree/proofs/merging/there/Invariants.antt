@@ -1,12 +1,8 @@
 -- `agree::merging::there` meets its contract. The loop's invariant: the first i places are those of rows. The measure is the count of the others.
 -- Assumes nothing.
 use Prim.Native.Nat.{ℕ, ◌≤◌, ◌<◌, ◌-◌, ◌/◌}
-use native.Mathlib.Omega.{arith}
-use mathlib.Core.Bool.{false≢true}
 use lib.ListN.{length, get_or}
-use borrow.Author.Count.{below_more}
 use Rattle.policy.specs.Words.{row_words}
-use borrow.Author.Rules.{rules}
 use Rattle.agree.proofs.merging.there.Given as goal
 
 abbrev pub invariant-loop-i : goal.invariant-loop-i

@@ -12,18 +12,18 @@ use Rattle.spd_cache.proofs.Cache.lookup.Goals as goal
 
 pub action_at-requires : goal.action_at-requires
 action_at-requires c =
-    let hit-slot : c.in-Row.hit < min c.args.t1.count slot_count = slot_bound c.args.t1.words c.args.t1.count c.args.direction (combination c.args.selectors) _ (sym c.in_slots-slot.ensures ∙ c.in-Row.is) in
-    omega (arith, hit-slot, c.action_at-arg-in-Row-1.given.0)
+    let hit-slot : c.in-Row.hit < min c.args.self.count slot_count = slot_bound c.args.self.words c.args.self.count c.args.direction (combination c.args.selectors) _ (sym c.in_slots-slot.ensures ∙ c.in-Row.is) in
+    omega (arith, hit-slot, c.action_at-arg-in-Row-1.given)
 
 pub returns-in-Row : goal.returns-in-Row
 returns-in-Row c =
-    let hit-slot : c.in-Row.hit < min c.args.t1.count slot_count = slot_bound c.args.t1.words c.args.t1.count c.args.direction (combination c.args.selectors) _ (sym c.in_slots-slot.ensures ∙ c.in-Row.is) in
-    rw (c.action_at.ensures, ← (used_action c.args.t1.words c.args.t1.count _ (hit-slot)))
-    (sym (lookup_hit c.args.t1 c.args.rows.now c.args.direction (combination c.args.selectors) _ (sym c.in_slots-slot.ensures ∙ c.in-Row.is)))
+    let hit-slot : c.in-Row.hit < min c.args.self.count slot_count = slot_bound c.args.self.words c.args.self.count c.args.direction (combination c.args.selectors) _ (sym c.in_slots-slot.ensures ∙ c.in-Row.is) in
+    rw (c.action_at.ensures, ← (used_action c.args.self.words c.args.self.count _ (hit-slot)))
+    (sym (lookup_hit c.args.self c.args.rows.now c.args.direction (combination c.args.selectors) _ (sym c.in_slots-slot.ensures ∙ c.in-Row.is)))
 
 pub returns-in_default-found : goal.returns-in_default-found
 returns-in_default-found c =
-    sym (lookup_none c.args.t1 c.args.rows.now c.args.direction (combination c.args.selectors)
+    sym (lookup_none c.args.self c.args.rows.now c.args.direction (combination c.args.selectors)
     (sym c.in_slots-slot.ensures ∙ c.in_default.is)
     (sym c.first_match-found.ensures ∙ c.in_default-found.is))
 
@@ -40,6 +40,6 @@ store-requires c =
 pub returns : goal.returns
 returns c =
     rw (c.action_at-2.ensures, c.store.ensures)
-    (sym (lookup_miss c.args.t1 c.args.rows.now c.args.direction (combination c.args.selectors) _
+    (sym (lookup_miss c.args.self c.args.rows.now c.args.direction (combination c.args.selectors) _
     (sym c.in_slots-slot.ensures ∙ c.in_default.is)
     (sym c.first_match-found.ensures ∙ c.in-Row-found.is)))

@@ -16,14 +16,14 @@ use Rattle.spd_cache.proofs.lent.lookup.Goals as goal
 pub action_at-requires : goal.action_at-requires
 action_at-requires c =
     let is-hit : match_from 0 c.args.direction (cached (cache_from c.args.cache.now)) (combination c.args.selectors) ≡ Row c.in-Row.hit = sym c.slot_of-slot.ensures ∙ c.in-Row.is in
-    let below : c.in-Row.hit < min (get_or c.args.cache.now count_at 0) slot_count = hit_below c.args.cache.now c.slot_of-arg-2-1.given.0 c.args.direction (combination c.args.selectors) _ (is-hit) in
-    omega (arith, below, c.action_at-arg-in-Row-1.given.0)
+    let below : c.in-Row.hit < min (get_or c.args.cache.now count_at 0) slot_count = hit_below c.args.cache.now c.slot_of-arg-2-1.given c.args.direction (combination c.args.selectors) _ (is-hit) in
+    omega (arith, below, c.action_at-arg-in-Row-1.given)
 
 pub returns-in-Row : goal.returns-in-Row
 returns-in-Row c =
     let is-hit : match_from 0 c.args.direction (cached (cache_from c.args.cache.now)) (combination c.args.selectors) ≡ Row c.in-Row.hit = sym c.slot_of-slot.ensures ∙ c.in-Row.is in
-    let below : c.in-Row.hit < min (get_or c.args.cache.now count_at 0) slot_count = hit_below c.args.cache.now c.slot_of-arg-2-1.given.0 c.args.direction (combination c.args.selectors) _ (is-hit) in
-    let h = c.slot_of-arg-2-1.given.0 in
+    let below : c.in-Row.hit < min (get_or c.args.cache.now count_at 0) slot_count = hit_below c.args.cache.now c.slot_of-arg-2-1.given c.args.direction (combination c.args.selectors) _ (is-hit) in
+    let h = c.slot_of-arg-2-1.given in
     rw (lookup_hit (cache_from c.args.cache.now) c.args.rows.now c.args.direction (combination c.args.selectors) _ (is-hit))
     (record { value = c.action_at.ensures ∙ sym (hit_action c.args.cache.now h _ (below)); cache_after = sym (cache_kept c.args.cache.now h) })
 
