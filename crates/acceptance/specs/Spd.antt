@@ -1,6 +1,5 @@
 -- The words of a gateway that holds a policy, and policy acceptance (document 01; docs/RULES.md, 'The order of checks'). Assumes nothing: these are definitions.
 use Rattle.std.specs.Prelude.{ℕ, cond, List, [], ◌∷◌, ◌++◌, leb, length}
-use Rattle.selectors.specs.declared.Direction.{Direction}
 use Rattle.selectors.specs.declared.Direction.TheVariants.{Out, In}
 use Rattle.policy_text.specs.declared.Edition.TheVariants.{One}
 use Rattle.policy_text.specs.Editions.{Rules, rules, Policy, refused, rows, refusal_number, refusal_carries}
