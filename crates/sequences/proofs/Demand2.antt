@@ -2,10 +2,7 @@
 -- Of every limit that the words of a gateway carry, every gateway address and every sequence of calls `cs` from a fresh gateway: the current policy
 -- is `current limit cs`, the rows of the last accepted file, and the live pairs are `live_pairs cs`, those added and not removed since. Neither a cache
 -- nor a normal form is in a statement.
-use Rattle.std.specs.Prelude.{ℕ, ◌≤◌, ◌≡◌, refl, true, List, [], ◌∷◌, ◌↔◌, ◌⊎◌}
-use Rattle.std.proofs.Common.{sym, ap, ◌∙◌}
-use Rattle.selectors.specs.Range.{absent}
-use Rattle.selectors.specs.Value.{number}
+use Rattle.std.specs.Prelude.{ℕ, ◌≤◌, ◌≡◌, true, List, [], ◌∷◌, ◌↔◌, ◌⊎◌}
 use Rattle.selectors.specs.declared.Direction.{Direction}
 use Rattle.selectors.specs.declared.Direction.TheVariants.{Out, In}
 use Rattle.normal_form.specs.Search.{Combination}
@@ -20,9 +17,8 @@ use Rattle.spd_cache.specs.Cache.{looked_up}
 use Rattle.spd.specs.Words.{rows_of}
 use Rattle.sad.specs.declared.PairFound.TheVariants.{Found, Nothing}
 use Rattle.sad.specs.Pairs.{pairs, live, fitting, pair_for}
-use Rattle.verdicts.specs.Calls.{shows, outbound_by, inbound_by, from_sa_by}
+use Rattle.verdicts.specs.Calls.{shows, from_sa_by}
 use Rattle.verdicts.specs.Verdict.{verdict_number, carried}
-use Rattle.verdicts.specs.declared.Verdict.{Verdict}
 use Rattle.answer_rules.specs.Terms.{ForGateway, IcmpError, returned}
 use Rattle.answer_rules.proofs.Demand1.{out-0, in-0, sa-1, out-2, out-3}
 use Rattle.sequences.specs.Sequence.{Gateway, Call, goes_out, comes_in}

@@ -1,6 +1,6 @@
 -- What holds of a gateway after every sequence of calls. Assumes nothing.
-use Rattle.std.specs.Prelude.{ℕ, ◌+◌, ◌*◌, ◌≤◌, ◌%◌, ◌≡◌, Bool, true, false, cond, ◌⊎◌, length}
-use Rattle.std.proofs.Common.{arith, sym, ◌∙◌, subst, inl, inr, ⊎_elim}
+use Rattle.std.specs.Prelude.{ℕ, ◌*◌, ◌≤◌, ◌≡◌, Bool, true, false, cond, length}
+use Rattle.std.proofs.Common.{arith, sym, ◌∙◌, subst, ⊎_elim}
 use Rattle.std.proofs.Math.Path.{refl, ap}
 use mathlib.Core.List.Memᴰ
 use mathlib.Core.List.{List, [], ◌∷◌, map, Memᴰ}

@@ -1,5 +1,5 @@
 -- The table of pairs after any sequence holds the pairs that the calls made live, no two of one name, and at most 64. Assumes nothing.
-use Rattle.std.specs.Prelude.{ℕ, zero, suc, ◌+◌, ◌*◌, ◌≤◌, ◌<◌, ◌≡◌, refl, Bool, true, false, cond, not, ◌&&◌, ◌⊎◌, leb, eqb, length, get_or, replicate}
+use Rattle.std.specs.Prelude.{ℕ, zero, suc, ◌+◌, ◌*◌, ◌≤◌, ◌<◌, ◌≡◌, refl, Bool, true, false, cond, not, ◌⊎◌, leb, eqb, length, get_or, replicate}
 use Rattle.std.proofs.Common.{arith, sym, ap, ◌∙◌, subst, inl, inr, ⊎_elim, length-append, eqb-true, eq-eqb, lt-ltb, le-ltb}
 use Rattle.std.proofs.Math.Decide.{dec_lt}
 use Rattle.std.proofs.lemmas.Bool.{false≢true}
@@ -14,7 +14,7 @@ use Rattle.sad.specs.declared.PairFound.{PairFound}
 use Rattle.sad.specs.declared.PairFound.TheVariants.{Found, Nothing}
 use Rattle.sad.specs.BestLaws.{Best, pair_for-found, pair_for_nothing}
 use Rattle.sad.specs.TableLaws.{pairs_before, pairs_after, refused_kept, pairs_after_add, pairs_after_remove, nothing_kept}
-use Rattle.sad.specs.Pairs.{Pair, pair_at, is_live_at, before, wanted, pair_for, place_count, place_words, pairs_from as placesFrom, pairs, named, live, fitting, reserved_spi, well_formed, new_pair, add_outcome, added, remove_outcome, removed}
+use Rattle.sad.specs.Pairs.{Pair, pair_at, is_live_at, before, pair_for, place_count, place_words, pairs_from as placesFrom, pairs, named, live, fitting, reserved_spi, well_formed, new_pair, add_outcome, added, remove_outcome, removed}
 use Rattle.answer_rules.proofs.NamedLaws.{Named, live_iff, NamesDiffer, fitting_iff}
 use Rattle.sequences.specs.Sequence.{Gateway, Call, policy, add, remove, outbound, inbound, comes_from_sa, fresh, after, run}
 use Rattle.sequences.proofs.InvariantLaws.{pair_words-after}

@@ -1,7 +1,7 @@
 -- The answer to the next call after any sequence of calls is the one by document 01's rules. Assumes nothing.
-use Rattle.std.specs.Prelude.{ℕ, ◌≤◌, ◌≡◌, Bool, true, false, cond, ◌⊎◌}
+use Rattle.std.specs.Prelude.{ℕ, ◌≤◌, ◌≡◌, true, cond}
 use Rattle.std.proofs.Math.Path.{refl, ap}
-use Rattle.std.proofs.Common.{sym, ◌∙◌, subst, inl, inr, ⊎_elim}
+use Rattle.std.proofs.Common.{sym, ◌∙◌, subst, ⊎_elim}
 use mathlib.Core.List.Memᴰ
 use mathlib.Core.List.{List, [], ◌∷◌, map, Memᴰ}
 use Rattle.selectors.specs.Range.{ipv4_sizes, holds}
@@ -25,7 +25,7 @@ use Rattle.policy_text.specs.declared.Edition.{Edition}
 use Rattle.policy_text.specs.declared.Edition.TheVariants.{One}
 use Rattle.policy_text.specs.Editions.{edition_sizes, Rules}
 use Rattle.decorrelate.specs.Form.{form}
-use Rattle.spd_cache.specs.Cache.{cached, looked_up}
+use Rattle.spd_cache.specs.Cache.{looked_up}
 use Rattle.spd_cache.proofs.SlotLaws.{lookup_action}
 use Rattle.spd.specs.Words.{address_of, rows_of}
 use Rattle.acceptance.proofs.SpdLaws.{spd_search, within_more}
@@ -36,7 +36,7 @@ use Rattle.verdicts.specs.Calls.{shows, outbound_action, outbound_read, outbound
 use Rattle.gateway.specs.Cached.{outbound_cached, inbound_cached}
 use Rattle.sequences.specs.Sequence.{Gateway, Call, policy, add, remove, outbound, inbound, comes_from_sa, fresh, run, goes_out, comes_in, for_pair, for_packet, answered}
 use Rattle.sequences.specs.Current.{current, live_pairs, ruled, OfBytes}
-use Rattle.sequences.proofs.InvariantLaws.{cache_of, Sound, rows_read, address_kept, sound}
+use Rattle.sequences.proofs.InvariantLaws.{cache_of, Sound, address_kept, sound}
 use Rattle.sequences.proofs.LiveLaws.{Alike, live_alike, add_alike, remove_alike, fitting_alike, pair_for_alike, pairs-live}
 
 -- A row of the normal form that holds values has the action of the search there.

@@ -1,6 +1,6 @@
 -- The slot rule over sequences: the slots of each cache are what document 01's rule makes of the calls. Assumes nothing.
-use Rattle.std.specs.Prelude.{ℕ, zero, suc, ◌+◌, ◌*◌, ◌≤◌, ◌%◌, ◌≡◌, Bool, true, false, cond, length}
-use Rattle.std.proofs.Common.{arith, sym, ◌∙◌}
+use Rattle.std.specs.Prelude.{ℕ, zero, suc, ◌+◌, ◌*◌, ◌≤◌, ◌%◌, ◌≡◌, Bool, true, false, cond}
+use Rattle.std.proofs.Common.{arith, ◌∙◌}
 use Rattle.std.proofs.Math.Path.{refl, ap}
 use mathlib.Core.List.{List, [], ◌∷◌, map}
 use Rattle.std.proofs.Math.Option.{Option, none, some}
@@ -13,14 +13,14 @@ use Rattle.policy.specs.Words.{row_at, rows_from, row_words, policy_rows}
 use Rattle.policy_text.specs.Editions.{Rules}
 use Rattle.decorrelate.specs.Form.{form}
 use Rattle.spd_cache.specs.declared.Cache.{Cache}
-use Rattle.spd_cache.specs.Cache.{slot_count, empty_cache, in_use, cached, turn, stored, looked_up, replaced}
+use Rattle.spd_cache.specs.Cache.{slot_count, empty_cache, in_use, cached, turn, stored, looked_up}
 use Rattle.spd_cache.proofs.CacheLaws.{row_bound, lookup_hit, lookup_miss, lookup_none}
 use Rattle.spd_cache.proofs.SlotLaws.{Filled, empty-cached, stored_rows}
 use Rattle.acceptance.specs.Spd.{no_rules, empty_caches}
 use Rattle.spd.specs.Words.{address_of, rows_of}
 use Rattle.sequences.specs.Sequence.{Gateway, Call, fresh, after, run}
 use Rattle.sequences.specs.Current.{Slots, no_slots, first_row, missed_slots, tried_slots, slots_searched, slots_or, slots_from, slots, accepts, instead, searched}
-use Rattle.sequences.proofs.InvariantLaws.{cache_of, cache_searched, cache_or, Holding, Sound, cache-after, rows_read, address_kept, after_sound, fresh_sound}
+use Rattle.sequences.proofs.InvariantLaws.{cache_of, cache_searched, cache_or, Sound, cache-after, rows_read, address_kept, after_sound, fresh_sound}
 
 -- The slots of a cache.
 abbrev pub slots_of : Cache → Slots

@@ -9,7 +9,6 @@ use Rattle.acceptance.specs.declared.Acceptance.{Acceptance}
 use Rattle.acceptance.specs.declared.Caches.{Caches}
 use Rattle.acceptance.specs.Spd.{spd_words, no_rules, accepting, spd_after, empty_caches, caches_after, acceptance_number}
 use Rattle.spd.specs.Words.{rows_of, address_of}
-use Rattle.spd_cache.specs.declared.Cache.{Cache}
 use Rattle.sad.specs.declared.NewPair.{NewPair}
 use Rattle.sad.specs.declared.Outcome.{Outcome}
 use Rattle.sad.specs.Pairs.{place_count, place_words, pairs, add_outcome, added, remove_outcome, removed, outcome_number}
