@@ -5,71 +5,69 @@ use sad::Outcome;
 use selectors::Direction;
 use verdicts::Verdict;
 
-pub fn say(words: &[u8]) {
-    io::write_all(1, words);
-    io::write_all(1, b"\n");
+// Where the output cannot be written, the calls go on without it.
+pub fn say(rt: &impl Print, words: &str) {
+    let _ = println!(rt; "{words}");
 }
 
-fn show_number(number: u64) {
-    io::write_all(1, b"= ");
-    io::print_decimal(1, number);
+fn show_number(rt: &impl Print, number: u64) {
+    let _ = print!(rt; "= {number}");
 }
 
-fn show_carried(number: u64) {
-    io::write_all(1, b" ");
-    io::print_decimal(1, number);
+fn show_carried(rt: &impl Print, number: u64) {
+    let _ = print!(rt; " {number}");
 }
 
-pub fn show_verdict(verdict: Verdict) {
-    show_number(answer_numbers::verdict_number(verdict));
+pub fn show_verdict(rt: &impl Print, verdict: Verdict) {
+    show_number(rt, answer_numbers::verdict_number(verdict));
     match verdict {
-        Verdict::Protect(number, protocol, spi) => show_protect(number, protocol, spi),
-        Verdict::Wanted(number) => show_carried(number),
-        Verdict::ToIpsec(protocol, spi) => show_sa(protocol, spi),
+        Verdict::Protect(number, protocol, spi) => show_protect(rt, number, protocol, spi),
+        Verdict::Wanted(number) => show_carried(rt, number),
+        Verdict::ToIpsec(protocol, spi) => show_sa(rt, protocol, spi),
         _ => {}
     }
-    say(b"");
+    say(rt, "");
 }
 
-fn show_protect(number: u64, protocol: u64, spi: u64) {
-    show_carried(number);
-    show_sa(protocol, spi);
+fn show_protect(rt: &impl Print, number: u64, protocol: u64, spi: u64) {
+    show_carried(rt, number);
+    show_sa(rt, protocol, spi);
 }
 
-fn show_sa(protocol: u64, spi: u64) {
-    show_carried(protocol);
-    show_carried(spi);
+fn show_sa(rt: &impl Print, protocol: u64, spi: u64) {
+    show_carried(rt, protocol);
+    show_carried(rt, spi);
 }
 
-pub fn show_outcome(outcome: Outcome) {
-    show_number(answer_numbers::outcome_number(outcome));
-    say(b"");
+pub fn show_outcome(rt: &impl Print, outcome: Outcome) {
+    show_number(rt, answer_numbers::outcome_number(outcome));
+    say(rt, "");
 }
 
-pub fn show_acceptance(acceptance: Acceptance) {
-    show_number(answer_numbers::acceptance_number(acceptance));
+pub fn show_acceptance(rt: &impl Print, acceptance: Acceptance) {
+    show_number(rt, answer_numbers::acceptance_number(acceptance));
     match acceptance {
-        Acceptance::Refused(refusal) => show_refusal(refusal),
-        Acceptance::TooLarge(direction) => show_direction(direction),
+        Acceptance::Refused(refusal) => show_refusal(rt, refusal),
+        Acceptance::TooLarge(direction) => show_direction(rt, direction),
         _ => {}
     }
-    say(b"");
+    say(rt, "");
 }
 
-fn show_refusal(refusal: Refusal) {
+fn show_refusal(rt: &impl Print, refusal: Refusal) {
     match refusal {
-        Refusal::BadRow(row) => show_carried(row as u64),
+        Refusal::BadRow(row) => show_carried(rt, row as u64),
         _ => {}
     }
 }
 
-fn show_direction(direction: Direction) {
+fn show_direction(rt: &impl Print, direction: Direction) {
     match direction {
         Direction::Out => {
-            io::write_all(1, b" out");
+            let _ = print!(rt; " out");
         }
         Direction::In => {
-            io::write_all(1, b" in");
+            let _ = print!(rt; " in");
         }
     }
 }

@@ -19,7 +19,7 @@
 mod answers;
 mod fields;
 
-ghost use Rattle.std.specs.Prelude.{◌≡◌, ◌≤◌, ◌<◌};
+ghost use Rattle.std.specs.Prelude.{◌≡◌, ◌≤◌, ◌<◌, length};
 ghost use Rattle.policy.specs.Words.{row_limit};
 ghost use Rattle.policy_text.specs.Editions.{parse_policy};
 ghost use Rattle.sad.specs.Pairs.{pairs};
@@ -30,11 +30,15 @@ ghost use Rattle.gateway.specs.Cached.{outbound_cached, inbound_cached};
 use acceptance::Caches;
 use answers::{say, show_acceptance, show_outcome, show_verdict};
 use fields::{Decoded, Word, decode, field, read_number, read_numbers, read_word};
-use libc::{STDERR_FILENO, STDIN_FILENO};
 use policy_text::{Number, after, before, count, same};
 use sad::{NewPair, TABLE_WORDS};
 use selectors::{Direction, Ends, Ranges, Value};
 use spd::SPD_WORDS;
+use std::env::FillError;
+use std::fs::File;
+use std::io;
+use std::io::Read;
+use std::rt::{Env, Files};
 
 // What a line asks for.
 #[derive(Clone, Copy)]
@@ -55,44 +59,79 @@ enum Call {
     FromSa,
 }
 
-fn main() {
-    if os::arg_count() < 2 {
-        from_input(STDIN_FILENO);
-        return;
+fn main(rt: HostRuntime) {
+    let mut name = [0u8; 4096];
+    match rt.arg(1, &mut name) {
+        Ok(n) => from_file(&rt, &name[..n]),
+        Err(FillError::NotPresent) => from_input(&rt, &mut rt.reader()),
+        // A name that is longer than the room counts as empty.
+        Err(FillError::TooLong) => from_file(&rt, &[]),
     }
-    let mut name = io::buffer();
-    let n = os::arg(1, &mut name);
-    let file = os::open_read(&name[..n]);
-    if file < 0 {
-        os::fail(b"gateway_script: FILE");
+}
+
+fn from_file(rt: &HostRuntime, name: &[u8]) {
+    let Ok(path) = str::from_utf8(name) else {
+        let _ = eprintln!(rt; "gateway_script: FILE: name is not UTF-8");
         return;
+    };
+    match File::open(rt, path) {
+        Ok(mut file) => from_input(rt, &mut file),
+        Err(error) => fail(rt, error),
     }
-    from_input(file);
-    libc::close(file);
+}
+
+// Says that the file cannot be opened, and the system's reason.
+fn fail(rt: &HostRuntime, error: io::Error) {
+    let _ = match format!(in rt.alloc(); "{error}") {
+        Ok(text) => eprintln!(rt; "gateway_script: FILE: {}", reason(text.as_str())),
+        Err(_) => eprintln!(rt; "gateway_script: FILE: {error}"),
+    };
+}
+
+// An error's text without its number.
+fn reason(text: &str) -> &str {
+    match text.split_once(" (os error ") {
+        Some((reason, _)) => reason,
+        None => text,
+    }
 }
 
 // The room is one byte longer than the longest script that is read.
-fn from_input(file: i32) {
+fn from_input(rt: &(impl Print + Eprint), source: &mut impl Read) {
     let mut room = [0u8; 131073];
-    let n = io::read_full(file, &mut room);
+    let n = read_full(source, &mut room);
     if n == 131073 {
-        io::write_all(
-            STDERR_FILENO,
-            b"gateway_script: script longer than 131072 bytes\n",
-        );
+        let _ = eprintln!(rt; "gateway_script: script longer than 131072 bytes");
         return;
     }
-    replay(&room[..n]);
+    replay(rt, &room[..n]);
 }
 
-fn replay(script: &[u8]) {
+// Reads until the room is full, the input ends or a read fails. What was read stands at the start of the room.
+fn read_full(source: &mut impl Read, room: &mut [u8]) -> usize
+    ensures { result ≤ length room.new }
+{
+    let mut done: usize = 0;
+    while done < room.len() {
+        let Ok(more) = source.read(&mut room[done..]) else {
+            return done;
+        };
+        if more == 0 {
+            return done;
+        }
+        done += more;
+    }
+    done
+}
+
+fn replay(rt: &impl Print, script: &[u8]) {
     let mut policy = [0u64; SPD_WORDS];
     let mut table = [0u64; TABLE_WORDS];
     let mut caches = acceptance::fresh(&mut policy, 0);
     let mut at: usize = 0;
     while at < script.len() {
         let line = before(&script[at..], b'\n');
-        caches = one_line(&mut policy, &mut table, caches, line);
+        caches = one_line(rt, &mut policy, &mut table, caches, line);
         at = next_line(script.len(), at, line.len());
     }
 }
@@ -109,6 +148,7 @@ fn next_line(end: usize, at: usize, length: usize) -> usize
 }
 
 fn one_line(
+    rt: &impl Print,
     policy: &mut [u64; SPD_WORDS],
     table: &mut [u64; TABLE_WORDS],
     caches: Caches,
@@ -117,7 +157,7 @@ fn one_line(
     if is_passed_over(line) {
         return caches;
     }
-    operate(policy, table, caches, line)
+    operate(rt, policy, table, caches, line)
 }
 
 fn is_passed_over(line: &[u8]) -> bool {
@@ -169,6 +209,7 @@ fn operation_on_bytes(line: &[u8]) -> Operation {
 
 // Carries a line out, and writes its answer.
 fn operate(
+    rt: &impl Print,
     policy: &mut [u64; SPD_WORDS],
     table: &mut [u64; TABLE_WORDS],
     caches: Caches,
@@ -177,24 +218,25 @@ fn operate(
     let operation = operation_of(line);
     let fields = after(line, b' ');
     match operation {
-        Operation::Gate => gate(policy, table, caches, fields),
-        Operation::Add => add(table, caches, fields),
-        Operation::Remove => remove(table, caches, fields),
-        Operation::OnBytes(call) => on_text(policy, table, caches, call, fields),
-        Operation::Nothing => refuse(caches),
+        Operation::Gate => gate(rt, policy, table, caches, fields),
+        Operation::Add => add(rt, table, caches, fields),
+        Operation::Remove => remove(rt, table, caches, fields),
+        Operation::OnBytes(call) => on_text(rt, policy, table, caches, call, fields),
+        Operation::Nothing => refuse(rt, caches),
     }
 }
 
 // A line that is no operation changes nothing.
-fn refuse(caches: Caches) -> Caches
+fn refuse(rt: &impl Print, caches: Caches) -> Caches
     ensures { result ≡ caches }
 {
-    say(b"= bad operation");
+    say(rt, "= bad operation");
     caches
 }
 
 // A fresh gateway: its address, the policy without rows, no pair and empty caches.
 fn gate(
+    rt: &impl Print,
     policy: &mut [u64; SPD_WORDS],
     table: &mut [u64; TABLE_WORDS],
     caches: Caches,
@@ -202,10 +244,10 @@ fn gate(
 ) -> Caches {
     let address = read_word(field(fields, 0));
     let Word::Is(own) = address else {
-        return refuse(caches);
+        return refuse(rt, caches);
     };
     empty(table);
-    say(b"= ok");
+    say(rt, "= ok");
     acceptance::fresh(policy, own)
 }
 
@@ -217,25 +259,25 @@ fn empty(table: &mut [u64; TABLE_WORDS]) {
     }
 }
 
-fn add(table: &mut [u64; TABLE_WORDS], caches: Caches, fields: &[u8]) -> Caches
+fn add(rt: &impl Print, table: &mut [u64; TABLE_WORDS], caches: Caches, fields: &[u8]) -> Caches
     ensures { result ≡ caches }
 {
     let mut values = [0u64; 15];
     if !read_numbers(fields, &mut values) {
-        return refuse(caches);
+        return refuse(rt, caches);
     }
     if values[4] != 4 {
-        return refuse(caches);
+        return refuse(rt, caches);
     }
     let inbound = read_word(field(fields, 1));
     let Word::Is(spi_in) = inbound else {
-        return refuse(caches);
+        return refuse(rt, caches);
     };
     let outbound = read_word(field(fields, 2));
     let Word::Is(spi_out) = outbound else {
-        return refuse(caches);
+        return refuse(rt, caches);
     };
-    show_outcome(sad::add(table, new_pair(&values, spi_in, spi_out)));
+    show_outcome(rt, sad::add(table, new_pair(&values, spi_in, spi_out)));
     caches
 }
 
@@ -268,23 +310,24 @@ fn ends(low: u64, high: u64) -> Ends {
     }
 }
 
-fn remove(table: &mut [u64; TABLE_WORDS], caches: Caches, fields: &[u8]) -> Caches
+fn remove(rt: &impl Print, table: &mut [u64; TABLE_WORDS], caches: Caches, fields: &[u8]) -> Caches
     ensures { result ≡ caches }
 {
     let protocol = read_number(field(fields, 0));
     let Number::Is(named) = protocol else {
-        return refuse(caches);
+        return refuse(rt, caches);
     };
     let inbound = read_word(field(fields, 1));
     let Word::Is(spi_in) = inbound else {
-        return refuse(caches);
+        return refuse(rt, caches);
     };
-    show_outcome(sad::remove(table, named, spi_in));
+    show_outcome(rt, sad::remove(table, named, spi_in));
     caches
 }
 
 // An operation whose last field is a byte string. The room is long enough for any line of a script.
 fn on_text(
+    rt: &impl Print,
     policy: &mut [u64; SPD_WORDS],
     table: &mut [u64; TABLE_WORDS],
     caches: Caches,
@@ -294,12 +337,13 @@ fn on_text(
     let mut room = [0u8; 65536];
     let decoded = decode(field(fields, count(fields, b' ')), &mut room);
     let Decoded::Bytes(n) = decoded else {
-        return refuse(caches);
+        return refuse(rt, caches);
     };
-    on_bytes(policy, table, caches, call, fields, &room[..n])
+    on_bytes(rt, policy, table, caches, call, fields, &room[..n])
 }
 
 fn on_bytes(
+    rt: &impl Print,
     policy: &mut [u64; SPD_WORDS],
     table: &[u64; TABLE_WORDS],
     caches: Caches,
@@ -308,24 +352,25 @@ fn on_bytes(
     bytes: &[u8],
 ) -> Caches {
     match call {
-        Call::Policy => accept(policy, caches, bytes),
-        Call::Outbound => outbound(policy, table, caches, bytes),
-        Call::Inbound => inbound(policy, table, caches, bytes),
-        Call::FromSa => from_sa(table, caches, fields, bytes),
+        Call::Policy => accept(rt, policy, caches, bytes),
+        Call::Outbound => outbound(rt, policy, table, caches, bytes),
+        Call::Inbound => inbound(rt, policy, table, caches, bytes),
+        Call::FromSa => from_sa(rt, table, caches, fields, bytes),
     }
 }
 
-fn accept(policy: &mut [u64; SPD_WORDS], caches: Caches, bytes: &[u8]) -> Caches
+fn accept(rt: &impl Print, policy: &mut [u64; SPD_WORDS], caches: Caches, bytes: &[u8]) -> Caches
     ensures value { result ≡ caches_after row_limit caches (parse_policy row_limit bytes.now) }
     ensures policy_after { policy.new ≡ spd_after row_limit row_limit policy.old (parse_policy row_limit bytes.now) }
 {
     let settled = acceptance::accept(policy, caches, bytes);
     let acceptance = settled.acceptance;
-    show_acceptance(acceptance);
+    show_acceptance(rt, acceptance);
     settled.caches
 }
 
 fn outbound(
+    rt: &impl Print,
     policy: &[u64; SPD_WORDS],
     table: &[u64; TABLE_WORDS],
     caches: Caches,
@@ -338,7 +383,7 @@ fn outbound(
     let inbound = caches.inbound;
     let answered = gateway::outbound(policy, table, outbound, bytes);
     let verdict = answered.verdict;
-    show_verdict(verdict);
+    show_verdict(rt, verdict);
     let after = answered.cache;
     Caches {
         outbound: after,
@@ -347,6 +392,7 @@ fn outbound(
 }
 
 fn inbound(
+    rt: &impl Print,
     policy: &[u64; SPD_WORDS],
     table: &[u64; TABLE_WORDS],
     caches: Caches,
@@ -359,7 +405,7 @@ fn inbound(
     let inbound = caches.inbound;
     let answered = gateway::inbound(policy, table, inbound, bytes);
     let verdict = answered.verdict;
-    show_verdict(verdict);
+    show_verdict(rt, verdict);
     let after = answered.cache;
     Caches {
         outbound,
@@ -367,17 +413,23 @@ fn inbound(
     }
 }
 
-fn from_sa(table: &[u64; TABLE_WORDS], caches: Caches, fields: &[u8], bytes: &[u8]) -> Caches
+fn from_sa(
+    rt: &impl Print,
+    table: &[u64; TABLE_WORDS],
+    caches: Caches,
+    fields: &[u8],
+    bytes: &[u8],
+) -> Caches
     ensures { result ≡ caches }
 {
     let protocol = read_number(field(fields, 0));
     let Number::Is(named) = protocol else {
-        return refuse(caches);
+        return refuse(rt, caches);
     };
     let inbound = read_word(field(fields, 1));
     let Word::Is(spi_in) = inbound else {
-        return refuse(caches);
+        return refuse(rt, caches);
     };
-    show_verdict(gateway::from_sa(table, named, spi_in, bytes));
+    show_verdict(rt, gateway::from_sa(table, named, spi_in, bytes));
     caches
 }

@@ -16,4 +16,4 @@ direction_asked s = cond (are_same_bytes s out_word) (For Out) (cond (are_same_b
 abbrev pub Within : ℕ → Input → Type 0
 Within room (Bytes n) = n < room
 Within room TooLong = Unit {0}
-Within room Failed = Unit {0}
+Within room (Failed e) = Unit {0}

@@ -6,27 +6,31 @@ ghost use Rattle.std.specs.Prelude.{◌≤◌, length};
 use normal_form_file::Normalised;
 use policy_text::Refusal;
 use selectors::Direction;
+use std::io;
+use std::io::Read;
 
-fn main() {
-    let mut text = io::large_buffer();
-    let n = io::read_full(0, &mut text);
-    each_file(&text[..n]);
+// Of standard input 65,536 bytes are read, and no more.
+fn main(rt: HostRuntime) -> io::Result<()> {
+    let mut text = Vec::new(rt.alloc());
+    rt.reader().take(65536).read_to_end(&mut text)?;
+    each_file(&rt, &text)
 }
 
-fn each_file(text: &[u8]) {
+fn each_file(rt: &impl Print, text: &[u8]) -> io::Result<()> {
     let mut at = 0;
     while at < text.len() {
         let end = file_end(text, at);
-        one_file(&text[at..end]);
+        one_file(rt, &text[at..end])?;
         at = end + 1;
     }
+    Ok(())
 }
 
-fn one_file(file: &[u8]) {
-    io::write_all(1, b"out: ");
-    show(file, Direction::Out);
-    io::write_all(1, b"in: ");
-    show(file, Direction::In);
+fn one_file(rt: &impl Print, file: &[u8]) -> io::Result<()> {
+    print!(rt; "out: ")?;
+    show(rt, file, Direction::Out)?;
+    print!(rt; "in: ")?;
+    show(rt, file, Direction::In)
 }
 
 // Where the file that begins at `from` ends.
@@ -44,46 +48,42 @@ fn file_end(text: &[u8], from: usize) -> usize
     end
 }
 
-fn show(file: &[u8], direction: Direction) {
+fn show(rt: &impl Print, file: &[u8], direction: Direction) -> io::Result<()> {
     let mut out = [0u8; 32768];
     let answer = normal_form_file::normalise(file, direction, &mut out);
     match answer {
-        Normalised::Printed(count) => show_file(&out, count),
-        Normalised::Refused(refusal) => show_refusal(refusal),
-        Normalised::TooLarge(_) => say(b"22, the normal form has too many rows"),
-        Normalised::NoRoom => say(b"31, no room"),
+        Normalised::Printed(count) => show_file(rt, &out, count),
+        Normalised::Refused(refusal) => show_refusal(rt, refusal),
+        Normalised::TooLarge(_) => say(rt, "22, the normal form has too many rows"),
+        Normalised::NoRoom => say(rt, "31, no room"),
     }
 }
 
-fn show_refusal(refusal: Refusal) {
+fn show_refusal(rt: &impl Print, refusal: Refusal) -> io::Result<()> {
     match refusal {
-        Refusal::NotHeader => say(b"23, not the header line"),
-        Refusal::NotEnded => say(b"24, the last byte is not LF"),
-        Refusal::TooMany => say(b"21, too many rows"),
-        Refusal::BadRow(row) => say_row(row),
+        Refusal::NotHeader => say(rt, "23, not the header line"),
+        Refusal::NotEnded => say(rt, "24, the last byte is not LF"),
+        Refusal::TooMany => say(rt, "21, too many rows"),
+        Refusal::BadRow(row) => say_row(rt, row),
     }
 }
 
-fn show_file(out: &[u8], count: usize) {
-    io::write_all(1, b"5, ");
-    io::print_decimal(1, count as u64);
-    say(b" bytes");
-    write_first(out, count);
+fn show_file(rt: &impl Print, out: &[u8], count: usize) -> io::Result<()> {
+    println!(rt; "5, {count} bytes")?;
+    write_first(rt, out, count)
 }
 
-fn write_first(out: &[u8], count: usize) {
+fn write_first(rt: &impl Print, out: &[u8], count: usize) -> io::Result<()> {
     if count <= out.len() {
-        io::write_all(1, &out[..count]);
+        rt.write_all(&out[..count])?;
     }
+    Ok(())
 }
 
-fn say_row(row: usize) {
-    io::write_all(1, b"20, bad row ");
-    io::print_decimal(1, row as u64);
-    io::write_all(1, b"\n");
+fn say_row(rt: &impl Print, row: usize) -> io::Result<()> {
+    println!(rt; "20, bad row {row}")
 }
 
-fn say(words: &[u8]) {
-    io::write_all(1, words);
-    io::write_all(1, b"\n");
+fn say(rt: &impl Print, words: &str) -> io::Result<()> {
+    println!(rt; "{words}")
 }

@@ -9,20 +9,43 @@ use policy_parse::parse;
 use policy_print::{Printed, print};
 use policy_text::{Edition, Parsed, Refusal, before};
 use selectors::Direction;
+use std::fs::File;
+use std::io;
+use std::io::Read;
+use std::rt::Files;
 
-fn main() {
-    let mut names = io::buffer();
-    let n = io::read_full(0, &mut names);
-    each_name(&names[..n]);
+// Of standard input 4,096 bytes are read, and no more; of each file 65,536.
+fn main(rt: HostRuntime) -> io::Result<()> {
+    let mut names = [0u8; 4096];
+    let n = read_full(&mut rt.reader(), &mut names);
+    each_name(&rt, &names[..n])
 }
 
-fn each_name(names: &[u8]) {
+// Reads until the room is full, the input ends or a read fails. What was read stands at the start of the room.
+fn read_full(input: &mut impl Read, room: &mut [u8]) -> usize
+    ensures { result ≤ length room.new }
+{
+    let mut done: usize = 0;
+    while done < room.len() {
+        let Ok(more) = input.read(&mut room[done..]) else {
+            return done;
+        };
+        if more == 0 {
+            return done;
+        }
+        done += more;
+    }
+    done
+}
+
+fn each_name(rt: &(impl Files + Print), names: &[u8]) -> io::Result<()> {
     let mut at: usize = 0;
     while at < names.len() {
         let name = before(&names[at..], b'\n');
-        one_file(name);
+        one_file(rt, name)?;
         at = next(names.len(), at, name.len());
     }
+    Ok(())
 }
 
 // The place after a name and its LF, or the end.
@@ -36,79 +59,79 @@ fn next(end: usize, at: usize, length: usize) -> usize
     at + length + 1
 }
 
-fn one_file(name: &[u8]) {
-    io::write_all(1, name);
-    io::write_all(1, b": ");
-    let file = os::open_read(name);
-    if file < 0 {
-        io::write_all(1, b"no such file\n");
-        return;
-    }
-    let mut bytes = io::large_buffer();
-    let n = io::read_full(file, &mut bytes);
-    libc::close(file);
-    answer(&bytes[..n]);
+fn one_file(rt: &(impl Files + Print), name: &[u8]) -> io::Result<()> {
+    rt.write_all(name)?;
+    print!(rt; ": ")?;
+    let Ok(path) = str::from_utf8(name) else {
+        return say(rt, "no such file");
+    };
+    let Ok(mut file) = File::open(rt, path) else {
+        return say(rt, "no such file");
+    };
+    let mut bytes = [0u8; 65536];
+    let n = read_full(&mut file, &mut bytes);
+    answer(rt, &bytes[..n])
 }
 
-fn answer(bytes: &[u8]) {
+fn answer(rt: &impl Print, bytes: &[u8]) -> io::Result<()> {
     let mut rows = [0u64; POLICY_WORDS];
     let parsed = parse(bytes, LIMIT, &mut rows);
-    show(parsed, &rows);
+    show(rt, parsed, &rows)
 }
 
-// Document 01's number of the answer, and what it carries.
-fn show(parsed: Parsed, rows: &[u64]) {
+// The number of the answer, and what it carries.
+fn show(rt: &impl Print, parsed: Parsed, rows: &[u64]) -> io::Result<()> {
     match parsed {
-        Parsed::Rows(edition, n) => show_rows(edition, rows, n),
-        Parsed::Refused(refusal) => show_refusal(refusal),
-        Parsed::NoRoom => say(b"no room"),
+        Parsed::Rows(edition, n) => show_rows(rt, edition, rows, n),
+        Parsed::Refused(refusal) => show_refusal(rt, refusal),
+        Parsed::NoRoom => say(rt, "no room"),
     }
 }
 
-fn show_refusal(refusal: Refusal) {
+fn show_refusal(rt: &impl Print, refusal: Refusal) -> io::Result<()> {
     match refusal {
-        Refusal::NotHeader => say(b"23"),
-        Refusal::NotEnded => say(b"24"),
-        Refusal::TooMany => say(b"21"),
-        Refusal::BadRow(i) => show_count(b"20, row ", i),
+        Refusal::NotHeader => say(rt, "23"),
+        Refusal::NotEnded => say(rt, "24"),
+        Refusal::TooMany => say(rt, "21"),
+        Refusal::BadRow(i) => show_count(rt, "20, row ", i),
     }
 }
 
-fn show_rows(edition: Edition, rows: &[u64], n: usize) {
-    show_count(b"5, rows ", n);
+fn show_rows(rt: &impl Print, edition: Edition, rows: &[u64], n: usize) -> io::Result<()> {
+    show_count(rt, "5, rows ", n)?;
     if n <= LIMIT {
-        print_first(edition, rows, n * ROW_WORDS);
+        print_first(rt, edition, rows, n * ROW_WORDS)?;
     }
+    Ok(())
 }
 
-fn print_first(edition: Edition, rows: &[u64], words: usize) {
+fn print_first(rt: &impl Print, edition: Edition, rows: &[u64], words: usize) -> io::Result<()> {
     if words <= rows.len() {
-        print_rows(edition, &rows[..words]);
+        print_rows(rt, edition, &rows[..words])?;
     }
+    Ok(())
 }
 
-fn print_rows(edition: Edition, rows: &[u64]) {
+fn print_rows(rt: &impl Print, edition: Edition, rows: &[u64]) -> io::Result<()> {
     let mut text = [0u8; 30000];
     let printed = print(edition, rows, Direction::Out, &mut text);
     match printed {
-        Printed::Bytes(n) => write_first(&text, n),
-        Printed::NoRoom => say(b"31"),
+        Printed::Bytes(n) => write_first(rt, &text, n),
+        Printed::NoRoom => say(rt, "31"),
     }
 }
 
-fn write_first(text: &[u8], n: usize) {
+fn write_first(rt: &impl Print, text: &[u8], n: usize) -> io::Result<()> {
     if n <= text.len() {
-        io::write_all(1, &text[..n]);
+        rt.write_all(&text[..n])?;
     }
+    Ok(())
 }
 
-fn show_count(name: &[u8], n: usize) {
-    io::write_all(1, name);
-    io::print_decimal(1, n as u64);
-    say(b"");
+fn show_count(rt: &impl Print, name: &str, n: usize) -> io::Result<()> {
+    println!(rt; "{name}{n}")
 }
 
-fn say(words: &[u8]) {
-    io::write_all(1, words);
-    io::write_all(1, b"\n");
+fn say(rt: &impl Print, words: &str) -> io::Result<()> {
+    println!(rt; "{words}")
 }
