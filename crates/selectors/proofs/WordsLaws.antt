@@ -10,7 +10,7 @@ use Rattle.std.proofs.Math.Seq.{set_out, take-add}
 use Rattle.std.proofs.lemmas.List.Edits.{sets}
 use Rattle.std.proofs.Math.ListN.{take, get_or-eq_default}
 use Rattle.std.proofs.lemmas.Bool.{lt-leb}
-use Rattle.selectors.specs.Range.{Range, contains}
+use Rattle.selectors.specs.Range.{contains}
 use Rattle.selectors.specs.Ranges.{from_to, ends_range, five_ranges}
 use Rattle.selectors.proofs.HeldLaws.{all_ranges}
 use Rattle.selectors.proofs.StoresLaws.{sets_more}

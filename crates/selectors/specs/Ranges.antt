@@ -1,5 +1,5 @@
 -- The three types of ranges as ranges of numbers, and what their constructors answer. Assumes nothing: these are definitions.
-use Rattle.std.specs.Prelude.{ℕ, cond, List, [], ◌∷◌}
+use Rattle.std.specs.Prelude.{cond, List, [], ◌∷◌}
 use Rattle.selectors.specs.Range.{Range, range, in_field, address_size, protocol_size, port_size}
 use Rattle.selectors.specs.Value.{number}
 use Rattle.selectors.specs.declared.Value.{Value}

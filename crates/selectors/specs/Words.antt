@@ -3,7 +3,7 @@
 -- values, stand in the order of the fields.
 use Rattle.std.specs.Prelude.{ℕ, zero, suc, ◌+◌, ◌*◌, ◌/◌, ◌%◌, ◌^◌, Bool, ◌&&◌, List, [], ◌∷◌, ◌++◌, leb, length, get_or}
 use Rattle.selectors.specs.Range.{Range, holds}
-use Rattle.selectors.specs.Ranges.{from_to, ends_range}
+use Rattle.selectors.specs.Ranges.{ends_range}
 use Rattle.selectors.specs.Value.{number}
 use Rattle.selectors.specs.declared.Ends.{Ends}
 use Rattle.selectors.specs.declared.Ranges.{Ranges}

@@ -125,8 +125,8 @@ fn what_is_wrong_is_seen() {
     assert_eq!(wrong("`crates/selectors/specs/Range.antt` `contains`"), 2);
     assert_eq!(wrong("defined `crates/selectors/specs/Range.antt` `contains`, `Range`"), 0);
     assert_eq!(wrong("proved `crates/selectors/specs/Range.antt` `contains`"), 1);
-    assert_eq!(wrong("proved `crates/selectors/specs/RangeLaws.antt` `opaque-alone`"), 0);
-    assert_eq!(wrong("defined `crates/selectors/specs/RangeLaws.antt` `opaque-alone`"), 1);
+    assert_eq!(wrong("proved `crates/selectors/proofs/RangeLaws.antt` `opaque_alone`"), 0);
+    assert_eq!(wrong("defined `crates/selectors/proofs/RangeLaws.antt` `opaque_alone`"), 1);
     assert_eq!(wrong("proved `crates/packet/specs/Read.antt` `nothing`"), 1);
     assert_eq!(wrong("run `crates/selectors/src/lib.rt` `pub const ANY`"), 1);
     assert_eq!(wrong("run `rust/testkit/tests`"), 0);

@@ -1,7 +1,6 @@
 -- `selectors::in_field` meets its contract: low above high, or high not above the field. Assumes nothing.
 use mathlib.Core.Path.{sym, ap, ◌∙◌}
 use mathlib.Core.Bool.{not}
-use borrow.Author.Rules.{rules}
 use borrow.Author.Tests.{ltb-true, ltb-false}
 use Rattle.selectors.proofs.RangeLaws.{in_field_reversed, in_field_ordered}
 use Rattle.selectors.proofs.in_field.Goals as goal

@@ -1,6 +1,5 @@
 -- `selectors::same_ends` meets its contract: the low ends first, and then the high ones. Assumes nothing.
 use mathlib.Core.Path.{sym, ◌∙◌}
-use borrow.Author.Rules.{rules}
 use Rattle.selectors.specs.Range.{same_range}
 use Rattle.selectors.proofs.same_ends.Goals as goal
 

@@ -3,7 +3,6 @@ use mathlib.Core.Path.{sym}
 use borrow.Author.Tests.{le-leb}
 use Rattle.selectors.specs.Range.{range, contains}
 use Rattle.selectors.proofs.RangeLaws.{contains_below}
-use borrow.Author.Rules.{rules}
 use Rattle.selectors.proofs.within.Goals as goal
 
 pub returns-then-value-low : goal.returns-then-value-low

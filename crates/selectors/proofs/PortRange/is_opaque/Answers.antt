@@ -1,5 +1,4 @@
 -- `selectors::PortRange::is_opaque` meets its contract: the ends of `OPAQUE` are the numbers that the definition has. Assumes nothing.
-use borrow.Author.Rules.{rules}
 use Rattle.selectors.specs.Value.{number}
 use Rattle.selectors.proofs.PortRange.is_opaque.Goals as goal
 

@@ -1,6 +1,5 @@
 -- `selectors::PortRange::new` meets its contract: the test is that of the field whose last value `ANY` has. Assumes nothing.
 use mathlib.Core.Path.{sym, ◌∙◌}
-use borrow.Author.Rules.{rules}
 use Rattle.selectors.specs.Value.{number}
 use Rattle.selectors.proofs.PortRange.new.Goals as goal
 

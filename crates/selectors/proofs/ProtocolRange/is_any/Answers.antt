@@ -1,5 +1,4 @@
 -- `selectors::ProtocolRange::is_any` meets its contract: the ends of `ANY` are the numbers that the definition has. Assumes nothing.
-use borrow.Author.Rules.{rules}
 use Rattle.selectors.specs.Value.{number}
 use Rattle.selectors.proofs.ProtocolRange.is_any.Goals as goal
 

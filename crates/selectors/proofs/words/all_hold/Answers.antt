@@ -1,11 +1,8 @@
 -- `words::all_hold` meets its contract. The loop's invariant: the ranges hold the values if those from the field f on do.
 -- The measure is the count of those. Assumes nothing.
-use Prim.Native.Nat.{◌≤◌, ◌-◌}
 use native.Mathlib.Nat.{sub-zero}
-use mathlib.Core.Path.{◌≡◌, sym, ◌∙◌}
+use mathlib.Core.Path.{sym, ◌∙◌}
 use borrow.Author.Tests.{not-true, not-false}
-use Rattle.selectors.specs.Range.{holds}
-use Rattle.selectors.specs.Words.{values_from, ranges_from}
 use Rattle.selectors.proofs.HeldLaws.{holds_go, holds_stop, holds_ended}
 use borrow.Author.Rules.{rules}
 use Rattle.selectors.proofs.words.all_hold.Goals as goal

@@ -1,13 +1,9 @@
 -- `words::all_hold` meets its contract. The loop's invariant: the ranges hold the values if those from the field f on do.
 -- The measure is the count of those. Assumes nothing.
 use Prim.Native.Nat.{◌≤◌, ◌-◌}
-use native.Mathlib.Nat.{sub-zero}
-use mathlib.Core.Path.{◌≡◌, sym, ◌∙◌}
-use borrow.Author.Tests.{not-true, not-false}
+use mathlib.Core.Path.{◌≡◌}
 use Rattle.selectors.specs.Range.{holds}
 use Rattle.selectors.specs.Words.{values_from, ranges_from}
-use Rattle.selectors.proofs.HeldLaws.{holds_go, holds_stop, holds_ended}
-use borrow.Author.Rules.{rules}
 use Rattle.selectors.proofs.words.all_hold.Given as goal
 
 abbrev pub invariant-loop-f : goal.invariant-loop-f

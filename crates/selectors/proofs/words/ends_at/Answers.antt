@@ -3,8 +3,8 @@ use Prim.Native.Nat.{◌+◌}
 use lib.ListN.{length}
 use Rattle.selectors.proofs.WordsLaws.{ends_are, value_missing}
 use native.Mathlib.Omega.{arith}
-use mathlib.Core.Path.{sym, refl, ◌∙◌}
-use borrow.Author.Tests.{leb-true, leb-false}
+use mathlib.Core.Path.{sym, ◌∙◌}
+use borrow.Author.Tests.{leb-true}
 use borrow.Author.Rules.{rules}
 use Rattle.selectors.proofs.words.ends_at.Goals as goal
 

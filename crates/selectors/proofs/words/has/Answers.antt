@@ -5,7 +5,6 @@ use mathlib.Core.Path.{sym}
 use native.Mathlib.Omega.{arith}
 use borrow.Author.Tests.{lt-leb}
 use Rattle.selectors.proofs.WordsLaws.{leb_moved}
-use borrow.Author.Rules.{rules}
 use Rattle.selectors.proofs.words.has.Goals as goal
 
 pub returns-then-words-count : goal.returns-then-words-count

@@ -9,7 +9,6 @@ use Rattle.selectors.specs.Value.{number}
 use native.Mathlib.Omega.{arith}
 use Rattle.selectors.proofs.StoresLaws.{sets_out}
 use Rattle.selectors.proofs.WordsLaws.{range-put}
-use borrow.Author.Rules.{rules}
 use Rattle.selectors.proofs.words.put_ends.Goals as goal
 
 pub returns-then-words-at : goal.returns-then-words-at

@@ -8,7 +8,6 @@ use mathlib.Core.Path.{sym, ap, ◌∙◌}
 use native.Mathlib.Omega.{arith}
 use Rattle.selectors.proofs.StoresLaws.{sets_out}
 use Rattle.selectors.proofs.WordsLaws.{ranges-put}
-use borrow.Author.Rules.{rules}
 use Rattle.selectors.proofs.words.put_ranges.Goals as goal
 
 pub returns-then-words-at : goal.returns-then-words-at

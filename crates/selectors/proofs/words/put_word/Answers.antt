@@ -2,7 +2,6 @@
 use mathlib.Core.Path.{sym}
 use native.Mathlib.Omega.{arith}
 use lib.Seq.{set_out}
-use borrow.Author.Rules.{rules}
 use Rattle.selectors.proofs.words.put_word.Goals as goal
 
 pub returns-then-words-at : goal.returns-then-words-at

@@ -1,6 +1,5 @@
 -- `words::range_holds` meets its contract. Assumes nothing.
 use mathlib.Core.Path.{◌∙◌}
-use borrow.Author.Rules.{rules}
 use Rattle.selectors.proofs.words.range_holds.Goals as goal
 
 pub returns : goal.returns

@@ -1,7 +1,6 @@
 -- `words::range_in` meets its contract. Assumes nothing.
 use mathlib.Core.Path.{◌∙◌}
 use Rattle.selectors.proofs.WordsLaws.{ends_hold}
-use borrow.Author.Rules.{rules}
 use Rattle.selectors.proofs.words.range_in.Goals as goal
 
 pub returns : goal.returns

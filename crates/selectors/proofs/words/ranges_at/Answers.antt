@@ -2,7 +2,6 @@
 use native.Mathlib.Omega.{arith}
 use Rattle.selectors.proofs.WordsLaws.{ends_missing}
 use Prim.Native.Nat.{◌+◌}
-use borrow.Author.Rules.{rules}
 use Rattle.selectors.proofs.words.ranges_at.Goals as goal
 
 pub returns-then-words-at : goal.returns-then-words-at

@@ -1,6 +1,5 @@
 -- `words::selectors_of` meets its contract. Assumes nothing.
 use Rattle.selectors.specs.Words.{selectors_in}
-use borrow.Author.Rules.{rules}
 use Rattle.selectors.proofs.words.selectors_of.Goals as goal
 
 pub returns : goal.returns

@@ -2,7 +2,6 @@
 use mathlib.Core.Path.{sym, refl, ◌∙◌}
 use borrow.Author.Tests.{leb-true, leb-false}
 use Rattle.selectors.proofs.WordsLaws.{value_short}
-use borrow.Author.Rules.{rules}
 use Rattle.selectors.proofs.words.value_at.Goals as goal
 
 pub value_in-requires : goal.value_in-requires
