@@ -7,7 +7,7 @@ use Rattle.std.proofs.Math.Path.{refl, ap}
 use Rattle.std.proofs.Math.ListN.{length-set}
 use Rattle.std.proofs.lemmas.List.Edits.{sets}
 use Rattle.std.proofs.Math.Seq.{length-sets, get_or-set_same, get_or-set_other}
-use Rattle.selectors.specs.Range.{Range, range}
+use Rattle.selectors.specs.Range.{range}
 use Rattle.selectors.specs.Value.{number}
 use Rattle.selectors.specs.Words.{value_words, range_words, value_at, ends_at, range_at, ranges_from, words_of_value, words_of_range}
 use Rattle.selectors.proofs.WordsLaws.{range-put, value_written}

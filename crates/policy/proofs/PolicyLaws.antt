@@ -1,16 +1,16 @@
 -- Laws of the ordered search of a policy and of its normal form. Assumes nothing.
 use Rattle.std.specs.Prelude.{ℕ, ◌≡◌, refl, Bool, true, false, cond, ◌&&◌, List, [], ◌∷◌, map, ◌↔◌}
-use Rattle.std.proofs.Common.{sym, ◌∙◌, ap}
+use Rattle.std.proofs.Common.{◌∙◌, ap}
 use Rattle.selectors.specs.declared.Direction.{Direction}
 use Rattle.selectors.specs.declared.Direction.TheVariants.{Out, In}
 use Rattle.selectors.specs.Range.{holds}
 use Rattle.normal_form.specs.Search.{Row, row, Combination, find}
-use Rattle.normal_form.proofs.Laws.{search-normal_form, normal_form_ext, normal_form_canonical}
+use Rattle.normal_form.proofs.Laws.{search-normal_form, normal_form_canonical}
 use Rattle.policy.specs.declared.Action.{Action}
 use Rattle.policy.specs.declared.Action.TheVariants.{Discard}
 use Rattle.policy.specs.declared.RowDirection.TheVariants.{Only}
 use Rattle.policy.specs.ActionLaws.{action-≟}
-use Rattle.policy.specs.Policy.{PolicyRow, applies_to, matches, ordered_search, policy_normal_form, as_row, as_policy, for_both_ways}
+use Rattle.policy.specs.Policy.{PolicyRow, applies_to, matches, ordered_search, policy_normal_form, as_policy, for_both_ways}
 
 -- The first row either gives the answer or is passed over.
 pub search_hit : (d : Direction) (r : PolicyRow) (rs : List PolicyRow) (vs : List ℕ) → matches d r vs ≡ true

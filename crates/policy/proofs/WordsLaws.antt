@@ -7,7 +7,7 @@ use Rattle.std.specs.Prelude.{◌≡◌, Bool, List, ◌∷◌, get_or}
 use Rattle.std.proofs.Math.Path.{refl}
 use Rattle.std.proofs.Math.Bool.{true, false, cond}
 use Rattle.selectors.specs.declared.Direction.{Direction}
-use Rattle.policy.specs.Policy.{PolicyRow, matches, ordered_search, match_from}
+use Rattle.policy.specs.Policy.{matches, ordered_search, match_from}
 use Rattle.policy.specs.declared.Found.{Found}
 use Rattle.policy.specs.declared.Found.TheVariants.{Row, Nothing}
 use Rattle.policy.specs.declared.Action.{Action}

@@ -15,7 +15,7 @@ use Rattle.policy.specs.declared.RowDirection.{RowDirection}
 use Rattle.policy.specs.declared.RowDirection.TheVariants.{Only, Both}
 use Rattle.policy.specs.declared.Row.{Row}
 use Rattle.policy.specs.Policy.{PolicyRow, ordered_search}
-use Rattle.policy.specs.Words.{direction_of, direction_word, action_of_word, action_word, row_words, row_at, rows_from, policy_rows, words_with, words_of_row, words_of_all, words_of, ranges_of, row_of, words_of_record, words_of_records}
+use Rattle.policy.specs.Words.{direction_of, direction_word, action_of_word, action_word, row_words, row_at, rows_from, policy_rows, words_with, words_of_all, words_of, ranges_of, row_of, words_of_record, words_of_records}
 use Rattle.policy.proofs.WordsLaws.{word_action}
 
 pub direction-word : (d : RowDirection) → direction_of (direction_word d) ≡ d

@@ -1,10 +1,9 @@
 -- Worked examples of the format, computed. Assumes nothing.
-use Rattle.std.specs.Prelude.{ℕ, ◌≡◌, refl, List, [], ◌∷◌, ◌++◌}
-use Rattle.std.proofs.Math.Option.{Option, none, some}
-use Rattle.selectors.specs.Range.{Range, range, full, in_field, same_range, address_size, protocol_size, port_size}
-use Rattle.selectors.specs.declared.Direction.TheVariants.{Out}
-use Rattle.policy.specs.declared.Action.TheVariants.{Bypass, Protect}
-use Rattle.policy.specs.declared.RowDirection.TheVariants.{Only, Both}
+use Rattle.std.specs.Prelude.{◌≡◌, refl, [], ◌∷◌, ◌++◌}
+use Rattle.std.proofs.Math.Option.{none, some}
+use Rattle.selectors.specs.Range.{range, full, in_field, same_range, address_size, protocol_size, port_size}
+use Rattle.policy.specs.declared.Action.TheVariants.{Bypass}
+use Rattle.policy.specs.declared.RowDirection.TheVariants.{Both}
 use Rattle.policy.specs.Policy.{PolicyRow}
 use Rattle.policy_text.specs.declared.Edition.TheVariants.{One}
 use Rattle.policy_text.specs.declared.Number.TheVariants.{Is, Bad}
@@ -13,7 +12,7 @@ use Rattle.policy_text.specs.Bytes.{lf, index, has, before, after, count, are_sa
 use Rattle.policy_text.specs.Decimals.{digits, value, unpadded, decimal, last_digits, decimal_text}
 use Rattle.policy_text.specs.Format.{any, direction_field, field, fields_from, row_of, lines_of, rows_of, ranges_from}
 use Rattle.policy_text.specs.Print.{range_text, row_text, rows_text, policy_text}
-use Rattle.policy_text.specs.Edition1.{header, address, mask_below, masked_range, protocol_field, port_field, address_field, action_field, dotted, address_text, protocol_text, port_text, action_text, edition1}
+use Rattle.policy_text.specs.Edition1.{header, mask_below, masked_range, protocol_field, port_field, address_field, action_field, protocol_text, port_text, action_text, edition1}
 use Rattle.policy_text.specs.Editions.{edition_among, rows, refused, parse_policy, rules}
 
 -- Decimals: `0`, `07`, `256` up to 255, and 2^64 up to 65,535.

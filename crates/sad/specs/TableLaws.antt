@@ -13,7 +13,7 @@ use Rattle.std.proofs.Math.Seq.{paste, sets-eq, length-sets, drop_at}
 use Rattle.selectors.proofs.RangeLaws.{both_true}
 use Rattle.selectors.specs.Words.{value_at, words_of_value}
 use Rattle.selectors.proofs.WordsLaws.{value_written}
-use Rattle.selectors.proofs.StoresLaws.{paste-before, paste_in, paste-after}
+use Rattle.selectors.proofs.StoresLaws.{paste-before, paste-after}
 use Rattle.sad.specs.declared.NewPair.{NewPair}
 use Rattle.sad.specs.declared.Place.{Place}
 use Rattle.sad.specs.declared.Place.TheVariants.{At, Nowhere}

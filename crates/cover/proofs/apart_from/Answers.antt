@@ -1,5 +1,5 @@
 -- `cover::apart_from` meets its contract. By the policy that the code names. Assumes nothing.
-use Rattle.std.proofs.Common.{sym, ◌∙◌, rules}
+use Rattle.std.proofs.Common.{sym, ◌∙◌}
 use Rattle.cover.proofs.apart_from.Goals as goal
 
 pub returns-then-in_second : goal.returns-then-in_second

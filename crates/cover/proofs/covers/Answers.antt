@@ -1,5 +1,5 @@
 -- `cover::covers` meets its contract. By the policy that the code names. Assumes nothing.
-use Rattle.std.proofs.Common.{sym, ◌∙◌, rules}
+use Rattle.std.proofs.Common.{sym, ◌∙◌}
 use Rattle.cover.proofs.covers.Goals as goal
 
 pub returns-then-in_second : goal.returns-then-in_second

@@ -4,7 +4,6 @@ use borrow.Author.Tests.{le-leb, lt-leb, eq-eqb, ne_eqb}
 use lib.ListN.{length}
 use Rattle.packet.specs.Header.{shortest_header, shortest_field, ip_version, version, header_field}
 use Rattle.packet.specs.Read.{header_good}
-use borrow.Author.Rules.{rules}
 use Rattle.packet.proofs.header_good.Goals as goal
 
 pub returns-then-bytes-lt-SHORTEST_HEADER : goal.returns-then-bytes-lt-SHORTEST_HEADER

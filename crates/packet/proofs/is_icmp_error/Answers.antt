@@ -8,7 +8,6 @@ use Rattle.selectors.specs.Value.{number}
 use Rattle.selectors.proofs.ValueLaws.{number-lower}
 use Rattle.packet.specs.Read.{is_icmp, error_type}
 use Rattle.packet.specs.StepsLaws.{icmp_other, icmp_by_type, error_above, number_large}
-use borrow.Author.Rules.{rules}
 use Rattle.packet.proofs.is_icmp_error.Goals as goal
 
 pub returns-then-not-same : goal.returns-then-not-same

@@ -1,5 +1,4 @@
 -- `packet::local` meets its contract: each direction is a case of the definition. Assumes nothing.
-use borrow.Author.Rules.{rules}
 use Rattle.packet.proofs.local.Goals as goal
 
 pub returns-in-Out : goal.returns-in-Out

@@ -1,7 +1,6 @@
 -- `packet::packet_at` meets its contract: each part is that of the definition. Assumes nothing.
 use Rattle.packet.specs.Header.{source, destination}
 use Rattle.packet.specs.StepsLaws.{remote-local}
-use borrow.Author.Rules.{rules}
 use Rattle.packet.proofs.packet_at.Goals as goal
 
 pub returns : goal.returns

@@ -5,7 +5,6 @@ use borrow.Author.Tests.{ne_eqb}
 use Rattle.packet.specs.Header.{protocol}
 use Rattle.packet.specs.Read.{value, carries_ports}
 use Rattle.packet.specs.StepsLaws.{shown_later, shown-ports, shown_few-ports, shown_type, shown_few_type, shown_other, remote-local}
-use borrow.Author.Rules.{rules}
 use Rattle.packet.proofs.ports_at.Goals as goal
 
 pub returns-then-fragment_offset-ne0 : goal.returns-then-fragment_offset-ne0

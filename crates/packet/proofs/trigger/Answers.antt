@@ -3,7 +3,6 @@ use Prim.Native.Nat.{◌+◌, ◌-◌, min}
 use native.Mathlib.Omega.{arith}
 use mathlib.Core.Path.{◌≡◌}
 use Rattle.packet.specs.Read.{trigger_at, trigger_of}
-use borrow.Author.Rules.{rules}
 use Rattle.packet.proofs.trigger.Goals as goal
 
 pub returns : goal.returns

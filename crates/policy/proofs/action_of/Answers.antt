@@ -1,5 +1,4 @@
 -- `policy::action_of` meets its contract: each arm is one case of the definition. Assumes nothing.
-use borrow.Author.Rules.{rules}
 use borrow.Author.Tests.{ne_eqb}
 use Rattle.policy.proofs.action_of.Goals as goal
 

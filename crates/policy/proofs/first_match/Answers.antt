@@ -1,13 +1,10 @@
 -- `policy::first_match` meets its contract. The loop's invariant: the match in all rows is the match in the rows from `row` on.
 -- The measure is the count of those. Assumes nothing.
-use Prim.Native.Nat.{◌≤◌, ◌-◌}
 use native.Mathlib.Nat.{sub-zero}
 use mathlib.Core.Path.{◌≡◌, sym, ap, ◌∙◌}
 use Rattle.selectors.specs.Value.{combination}
-use Rattle.policy.specs.Policy.{match_from}
 use Rattle.selectors.specs.Words.{values_of}
 use Rattle.selectors.proofs.WordsLaws.{selector_values}
-use Rattle.policy.specs.Words.{rows_from, policy_rows}
 use Rattle.policy.proofs.WordsLaws.{match-found, match_passed, match_ended}
 use borrow.Author.Rules.{rules}
 use Rattle.policy.proofs.first_match.Goals as goal

@@ -5,7 +5,6 @@ use native.Mathlib.Numerals.{add-one}
 use mathlib.Core.Path.{◌≡◌, sym, ◌∙◌}
 use Rattle.selectors.proofs.StoresLaws.{sets_out}
 use Rattle.policy.specs.Words.{words_of_record}
-use borrow.Author.Rules.{rules}
 use Rattle.policy.proofs.put_row.Goals as goal
 
 pub returns-then-rows-at : goal.returns-then-rows-at

@@ -1,7 +1,6 @@
 -- `policy::ranges_of` meets its contract: end by end. Assumes nothing.
 use Rattle.selectors.proofs.WordsLaws.{ends_are, ranges_are}
 use Rattle.policy.specs.Words.{ends_of_record}
-use borrow.Author.Rules.{rules}
 use Rattle.policy.proofs.ranges_of.Goals as goal
 
 pub returns : goal.returns

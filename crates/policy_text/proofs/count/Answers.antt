@@ -1,10 +1,5 @@
 -- `policy_text::count` meets its contract. The loop's invariant: the count is n and what the rest from i on has. Assumes nothing.
-use Prim.Native.Nat.{◌≤◌, ◌+◌, ◌-◌}
 use native.Mathlib.Omega.{arith}
-use mathlib.Core.Path.{◌≡◌}
-use mathlib.Core.Logic.{⊎_elim}
-use lib.ListN.{length, drop}
-use Rattle.policy_text.specs.Bytes.{count}
 use Rattle.policy_text.proofs.BytesLaws.{count-here, count_next, count_none}
 use borrow.Author.Rules.{rules}
 use Rattle.policy_text.proofs.count.Goals as goal

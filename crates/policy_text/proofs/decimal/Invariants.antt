@@ -1,12 +1,8 @@
 -- `policy_text::decimal` meets its contract. The loop's invariant: the text's digits are those of the rest from i on, and its value what they make after n. Assumes nothing.
-use lib.ListN.{get_or, length, drop}
-use Prim.Native.Nat.{◌*◌, ◌≤◌, ◌+◌, ◌-◌}
-use native.Mathlib.Omega.{arith}
-use mathlib.Core.Path.{◌≡◌, sym, ◌∙◌}
-use borrow.Author.Tests.{not-true, not-false}
+use lib.ListN.{length, drop}
+use Prim.Native.Nat.{◌≤◌, ◌-◌}
+use mathlib.Core.Path.{◌≡◌}
 use Rattle.policy_text.specs.Decimals.{digits, value}
-use Rattle.policy_text.proofs.FormatLaws.{digits-next, digits_below, digits_above, digits_ended, value-next, value_ended, value_grows, decimal-padded, decimal_other, decimal_above, decimal_is}
-use borrow.Author.Rules.{rules}
 use Rattle.policy_text.proofs.decimal.Given as goal
 
 abbrev pub invariant-loop-i : goal.invariant-loop-i

@@ -1,11 +1,8 @@
 -- `policy_text::find` meets its contract. The loop's invariant: the first b is i bytes before where it is in the rest from i on. Assumes nothing.
 use Prim.Native.Nat.{◌≤◌, ◌+◌, ◌-◌}
-use native.Mathlib.Omega.{arith}
 use mathlib.Core.Path.{◌≡◌}
 use lib.ListN.{length, drop}
 use Rattle.policy_text.specs.Bytes.{index}
-use Rattle.policy_text.proofs.BytesLaws.{index-here, index-next, index_none}
-use borrow.Author.Rules.{rules}
 use Rattle.policy_text.proofs.find.Given as goal
 
 abbrev pub invariant-loop-i : goal.invariant-loop-i

@@ -1,10 +1,8 @@
 -- `policy_text::same` meets its contract. The loop's invariant: the texts are the same just if their rests from i on are. Assumes nothing.
 use Prim.Native.Nat.{◌≤◌, ◌-◌}
-use mathlib.Core.Path.{◌≡◌, sym, ◌∙◌}
+use mathlib.Core.Path.{◌≡◌}
 use lib.ListN.{length, drop}
 use Rattle.policy_text.specs.Bytes.{are_same_bytes}
-use Rattle.policy_text.proofs.BytesLaws.{same_next, same_differ, same_longer, same_ended}
-use borrow.Author.Rules.{rules}
 use Rattle.policy_text.proofs.same.Given as goal
 
 abbrev pub invariant-loop-i : goal.invariant-loop-i

@@ -1,13 +1,11 @@
 -- `sad::add` meets its contract: the refusals in their order, and then the lowest free place. Assumes nothing.
 use Rattle.sad.specs.PairsLaws.{first_bound, add_reserved, add_bad, add-live, add-full, add_at}
-use Rattle.sad.specs.Pairs.{place_count, free_at, free_place, reserved_spi, well_formed}
+use Rattle.sad.specs.Pairs.{place_count, free_at, free_place}
 use Rattle.sad.specs.declared.Place.TheVariants.{At}
 use Prim.Native.Nat.{◌<◌}
-use mathlib.Core.Bool.{true, false}
 use mathlib.Core.Path.{◌≡◌, sym, ◌∙◌}
 use native.Mathlib.Omega.{arith}
 use borrow.Author.Tests.{not-true, not-false}
-use borrow.Author.Rules.{rules}
 use Rattle.sad.proofs.add.Goals as goal
 
 pub returns-then-is_reserved : goal.returns-then-is_reserved

@@ -2,7 +2,6 @@
 use Rattle.sad.specs.Pairs.{ranges_in_fields}
 use borrow.Author.Tests.{not-true, not-false}
 use mathlib.Core.Path.{sym, ◌∙◌}
-use borrow.Author.Rules.{rules}
 use Rattle.sad.proofs.are_ranges.Goals as goal
 
 pub returns-then-not-is_address_range : goal.returns-then-not-is_address_range

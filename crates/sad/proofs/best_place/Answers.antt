@@ -1,10 +1,8 @@
 -- `sad::best_place` meets its contract. The loop's invariant: the best of all pairs is the best of `best` and the pairs of the places from `place` on.
 -- Assumes nothing.
-use Prim.Native.Nat.{◌≤◌, ◌-◌}
-use mathlib.Core.Option.{none}
-use mathlib.Core.Path.{◌≡◌, refl, sym, ◌∙◌}
+use mathlib.Core.Path.{refl, sym, ◌∙◌}
 use Rattle.selectors.specs.Words.{values_of}
-use Rattle.sad.specs.Pairs.{place_count, pairs, pairs_from, best_of, chosen}
+use Rattle.sad.specs.Pairs.{chosen}
 use Rattle.sad.specs.PairsLaws.{best-next, best_ended}
 use borrow.Author.Rules.{rules}
 use Rattle.sad.proofs.best_place.Goals as goal

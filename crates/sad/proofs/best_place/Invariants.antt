@@ -2,11 +2,9 @@
 -- Assumes nothing.
 use Prim.Native.Nat.{◌≤◌, ◌-◌}
 use mathlib.Core.Option.{none}
-use mathlib.Core.Path.{◌≡◌, refl, sym, ◌∙◌}
+use mathlib.Core.Path.{◌≡◌}
 use Rattle.selectors.specs.Words.{values_of}
 use Rattle.sad.specs.Pairs.{place_count, pairs, pairs_from, best_of, chosen}
-use Rattle.sad.specs.PairsLaws.{best-next, best_ended}
-use borrow.Author.Rules.{rules}
 use Rattle.sad.proofs.best_place.Given as goal
 
 abbrev pub invariant-loop-place : goal.invariant-loop-place

@@ -2,7 +2,6 @@
 use Rattle.sad.specs.Pairs.{better_of}
 use borrow.Author.Tests.{not-true, not-false}
 use mathlib.Core.Path.{sym, ◌∙◌}
-use borrow.Author.Rules.{rules}
 use Rattle.sad.proofs.better.Goals as goal
 
 pub returns-then-not-is_wanted : goal.returns-then-not-is_wanted

@@ -1,11 +1,8 @@
 -- `sad::fits_at` meets its contract: the ranges of one of the 64 places, and no place beyond them. Assumes nothing.
 use borrow.Author.Tests.{lt-ltb, le-ltb}
-use mathlib.Core.Path.{ap, ◌∙◌}
 use native.Mathlib.Omega.{arith}
-use Rattle.selectors.specs.Words.{values_of}
 use Rattle.selectors.proofs.WordsLaws.{selector_values}
 use Rattle.sad.specs.Pairs.{place_count, fits_at, pair_at}
-use borrow.Author.Rules.{rules}
 use Rattle.sad.proofs.fits_at.Goals as goal
 
 pub returns-then-place-lt-PLACES : goal.returns-then-place-lt-PLACES

@@ -1,10 +1,7 @@
 -- `sad::free_place` meets its contract: the loop's invariant: the first free place of all is the first of the places from `place` on, whose count is the measure. Assumes nothing.
-use mathlib.Core.Bool.{not}
-use Rattle.sad.specs.PairsLaws.{first_found, first_passed, first_ended}
 use Rattle.sad.specs.Pairs.{place_count, free_at, free_place, first_from}
-use mathlib.Core.Path.{◌≡◌, refl, sym, ap, ◌∙◌}
+use mathlib.Core.Path.{◌≡◌}
 use Prim.Native.Nat.{◌≤◌, ◌-◌}
-use borrow.Author.Rules.{rules}
 use Rattle.sad.proofs.free_place.Given as goal
 
 abbrev pub invariant-loop-place : goal.invariant-loop-place

@@ -1,8 +1,7 @@
 -- `sad::is_better` meets its contract: nothing to beat, the same inbound SPI, or another. Assumes nothing.
 use Rattle.sad.specs.PairsLaws.{before_tied, before_other}
-use Rattle.sad.specs.Pairs.{place_count, pair_at, before, chosen}
+use Rattle.sad.specs.Pairs.{place_count, pair_at, chosen}
 use borrow.Author.Tests.{lt-ltb, le-ltb}
-use borrow.Author.Rules.{rules}
 use Rattle.sad.proofs.is_better.Goals as goal
 
 pub returns-then-best-ge-PLACES : goal.returns-then-best-ge-PLACES

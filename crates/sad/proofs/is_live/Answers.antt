@@ -1,7 +1,6 @@
 -- `sad::is_live` meets its contract: a pair is live if it has a place. Assumes nothing.
 use Rattle.sad.specs.PairsLaws.{live_at, live_nowhere}
 use mathlib.Core.Path.{sym, ◌∙◌}
-use borrow.Author.Rules.{rules}
 use Rattle.sad.proofs.is_live.Goals as goal
 
 pub returns-in-At : goal.returns-in-At

@@ -2,7 +2,6 @@
 use mathlib.Core.Bool.{and-true, and-false}
 use Rattle.sad.specs.Pairs.{pair_at}
 use borrow.Author.Tests.{eq-eqb, ne_eqb}
-use borrow.Author.Rules.{rules}
 use Rattle.sad.proofs.is_named.Goals as goal
 
 pub returns-then-table-at : goal.returns-then-table-at

@@ -1,7 +1,6 @@
 -- `sad::is_port_range` meets its contract: the constructor's answer. Assumes nothing.
 use Rattle.sad.specs.PairsLaws.{port_made, chosen-made}
 use mathlib.Core.Path.{refl, sym, ap, ◌∙◌}
-use borrow.Author.Rules.{rules}
 use Rattle.sad.proofs.is_port_range.Goals as goal
 
 pub returns-in-Made : goal.returns-in-Made

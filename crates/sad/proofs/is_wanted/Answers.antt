@@ -3,7 +3,6 @@ use Rattle.sad.specs.Pairs.{pair_at, wanted}
 use borrow.Author.Tests.{not-true, not-false, eq-eqb, ne_eqb}
 use mathlib.Core.Bool.{and-false}
 use mathlib.Core.Path.{sym, ◌∙◌}
-use borrow.Author.Rules.{rules}
 use Rattle.sad.proofs.is_wanted.Goals as goal
 
 pub returns-then-table-at : goal.returns-then-table-at

@@ -2,7 +2,6 @@
 use Rattle.sad.specs.Pairs.{last_number, well_formed}
 use borrow.Author.Tests.{not-true, not-false, le-leb, lt-leb}
 use mathlib.Core.Path.{sym, ◌∙◌}
-use borrow.Author.Rules.{rules}
 use Rattle.sad.proofs.is_well_formed.Goals as goal
 
 pub returns-then-not-is_ipsec : goal.returns-then-not-is_ipsec

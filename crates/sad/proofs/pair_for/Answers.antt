@@ -4,7 +4,6 @@ use Rattle.selectors.specs.Value.{combination}
 use Rattle.selectors.specs.Words.{values_of}
 use Rattle.selectors.proofs.WordsLaws.{selector_values}
 use Rattle.sad.specs.PairsLaws.{pair_found, pair_nothing}
-use borrow.Author.Rules.{rules}
 use Rattle.sad.proofs.pair_for.Goals as goal
 
 pub returns-then-best-lt-PLACES : goal.returns-then-best-lt-PLACES

@@ -1,8 +1,7 @@
 -- `sad::place_of` meets its contract: the loop's invariant: the first place of all is the first of the places from `place` on, whose count is the measure. Assumes nothing.
 use Rattle.sad.specs.PairsLaws.{first_found, first_passed, first_ended}
-use Rattle.sad.specs.Pairs.{place_count, named_at, place_of, first_from}
-use mathlib.Core.Path.{◌≡◌, refl, sym, ◌∙◌}
-use Prim.Native.Nat.{◌≤◌, ◌-◌}
+use Rattle.sad.specs.Pairs.{place_count, named_at}
+use mathlib.Core.Path.{refl, sym, ◌∙◌}
 use borrow.Author.Rules.{rules}
 use Rattle.sad.proofs.place_of.Goals as goal
 

@@ -1,9 +1,7 @@
 -- `sad::place_of` meets its contract: the loop's invariant: the first place of all is the first of the places from `place` on, whose count is the measure. Assumes nothing.
-use Rattle.sad.specs.PairsLaws.{first_found, first_passed, first_ended}
 use Rattle.sad.specs.Pairs.{place_count, named_at, place_of, first_from}
-use mathlib.Core.Path.{◌≡◌, refl, sym, ◌∙◌}
+use mathlib.Core.Path.{◌≡◌}
 use Prim.Native.Nat.{◌≤◌, ◌-◌}
-use borrow.Author.Rules.{rules}
 use Rattle.sad.proofs.place_of.Given as goal
 
 abbrev pub invariant-loop-place : goal.invariant-loop-place

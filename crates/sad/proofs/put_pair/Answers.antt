@@ -4,7 +4,6 @@ use native.Mathlib.Omega.{arith}
 use native.Mathlib.Numerals.{add-one}
 use mathlib.Core.Path.{◌≡◌, ◌∙◌}
 use Rattle.sad.specs.Pairs.{pair_words}
-use borrow.Author.Rules.{rules}
 use Rattle.sad.proofs.put_pair.Goals as goal
 
 pub overflow_add-at-4 : goal.overflow_add-at-4

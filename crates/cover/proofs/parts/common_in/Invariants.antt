@@ -1,8 +1,7 @@
 -- `cover::parts::common_in` meets its contract. The loop's invariant: all that the box and the row have in common is still in the box `shared`.
 -- The measure is the count of the fields from `f` on. Assumes nothing.
-use Rattle.std.proofs.Common.{◌-◌, ◌≤◌, rules}
+use Rattle.std.proofs.Common.{◌-◌, ◌≤◌}
 use Rattle.selectors.specs.Words.{field_count}
-use Rattle.cover.specs.BoxLaws.{common_none, common_more}
 use Rattle.cover.specs.Boxes.{Common}
 use Rattle.cover.proofs.parts.common_in.Given as goal
 

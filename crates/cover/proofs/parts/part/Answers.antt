@@ -1,5 +1,4 @@
 -- `cover::parts::part` meets its contract. By the side that is asked for. Assumes nothing.
-use Rattle.std.proofs.Common.{rules}
 use Rattle.cover.specs.BoxLaws.{part_upper, part-lower}
 use Rattle.cover.proofs.parts.part.Goals as goal
 

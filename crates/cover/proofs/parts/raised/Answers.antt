@@ -1,6 +1,5 @@
 -- `cover::parts::raised` meets its contract. The low end is written, or the box stays as it is. Assumes nothing.
 use Rattle.cover.specs.BoxLaws.{raised_none}
-use Rattle.std.proofs.Common.{rules}
 use Rattle.cover.proofs.parts.raised.Goals as goal
 
 pub returns : goal.returns

@@ -1,5 +1,5 @@
 -- `cover::parts::with_high` meets its contract. The high end of the field is written. Assumes nothing.
-use Rattle.std.proofs.Common.{sym, ◌∙◌, rules}
+use Rattle.std.proofs.Common.{rules}
 use Rattle.cover.specs.BoxLaws.{written_high}
 use Rattle.cover.proofs.parts.with_high.Goals as goal
 

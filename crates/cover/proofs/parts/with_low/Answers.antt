@@ -1,5 +1,5 @@
 -- `cover::parts::with_low` meets its contract. The low end of the field is written. Assumes nothing.
-use Rattle.std.proofs.Common.{sym, ◌∙◌, rules}
+use Rattle.std.proofs.Common.{rules}
 use Rattle.cover.specs.BoxLaws.{written_low}
 use Rattle.cover.proofs.parts.with_low.Goals as goal
 

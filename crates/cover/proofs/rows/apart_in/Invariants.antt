@@ -1,9 +1,7 @@
 -- `cover::rows::apart_in` meets its contract. The loop's invariant: `f` is not before `field`. The measure is the count of the fields from `f`
 -- on. Assumes nothing.
-use Rattle.std.proofs.Common.{◌-◌, ◌≤◌, rules}
-use mathlib.Core.Bool.{false≢true}
+use Rattle.std.proofs.Common.{◌-◌, ◌≤◌}
 use Rattle.selectors.specs.Words.{field_count}
-use Rattle.cover.specs.BoxLaws.{field_parts}
 use Rattle.cover.proofs.rows.apart_in.Given as goal
 
 abbrev pub invariant-loop-f : goal.invariant-loop-f

@@ -1,10 +1,8 @@
 -- `cover::rows::covers_in` meets its contract. The loop's invariant: the row holds the box's values in the fields from `field` on and before
 -- `f`. The measure is the count of the fields from `f` on. Assumes nothing.
-use Rattle.std.proofs.Common.{◌-◌, ◌≤◌, arith, rules}
-use mathlib.Core.Bool.{false≢true}
-use borrow.Author.Tests.{not-false}
+use Rattle.std.proofs.Common.{◌-◌, ◌≤◌}
 use Rattle.selectors.specs.Words.{field_count}
-use Rattle.cover.specs.BoxLaws.{CoversTo, covers_none, covers_more, covers_all}
+use Rattle.cover.specs.BoxLaws.{CoversTo}
 use Rattle.cover.proofs.rows.covers_in.Given as goal
 
 abbrev pub invariant-loop-f : goal.invariant-loop-f

@@ -1,5 +1,5 @@
 -- `cover::rows::range_covers` meets its contract. By the order of the ends. Assumes nothing.
-use Rattle.std.proofs.Common.{sym, ◌∙◌, rules, ltb-false}
+use Rattle.std.proofs.Common.{sym, ◌∙◌, ltb-false}
 use mathlib.Core.Bool.{false≢true}
 use borrow.Author.Tests.{not-true}
 use Rattle.cover.specs.BoxLaws.{range_covers}

@@ -1,5 +1,5 @@
 -- `cover::rows::ranges_apart` meets its contract. By the order of the ends. Assumes nothing.
-use Rattle.std.proofs.Common.{sym, ◌∙◌, rules, ltb-true}
+use Rattle.std.proofs.Common.{sym, ◌∙◌, ltb-true}
 use Rattle.cover.specs.BoxLaws.{range_below, range_above}
 use Rattle.cover.proofs.rows.ranges_apart.Goals as goal
 

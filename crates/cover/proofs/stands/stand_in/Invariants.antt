@@ -1,8 +1,8 @@
 -- `cover::stands::stand_in` meets its contract. The loop's invariant: the row is not apart from the box so far, and holds the box's values in
 -- the fields from `field` on and before `f` if it is said to cover it. The measure is the count of the fields from `f` on. Assumes nothing.
-use Rattle.std.proofs.Common.{◌≡◌, ◌-◌, ◌≤◌, true, false, arith, rules}
+use Rattle.std.proofs.Common.{◌≡◌, ◌-◌, ◌≤◌, true, false}
 use Rattle.selectors.specs.Words.{field_count}
-use Rattle.cover.specs.BoxLaws.{CoversTo, covers_none, covers_more, covers_all, box_apart, box_covered, box_unknown}
+use Rattle.cover.specs.BoxLaws.{CoversTo}
 use Rattle.cover.proofs.stands.stand_in.Given as goal
 
 abbrev pub invariant-loop-f : goal.invariant-loop-f

@@ -1,5 +1,5 @@
 -- `cover::stands::stand_one` meets its contract. By the order of the ends. Assumes nothing.
-use Rattle.std.proofs.Common.{sym, ◌∙◌, rules, ltb-false}
+use Rattle.std.proofs.Common.{sym, ◌∙◌, ltb-false}
 use Rattle.cover.specs.BoxLaws.{range_covers, field_apart, field_cut, field_covered}
 use Rattle.cover.proofs.stands.stand_one.Goals as goal
 

@@ -1,7 +1,6 @@
 -- `cover::stands::survey` meets its contract. The loop's invariant: no row so far is said to cover the box. The measure is the count of the
 -- rows not looked at. Assumes nothing.
-use Rattle.std.proofs.Common.{◌≡◌, ◌-◌, ◌≤◌, false, rules}
-use Rattle.cover.specs.BoxLaws.{surveyed-row, surveyed_none}
+use Rattle.std.proofs.Common.{◌≡◌, ◌-◌, ◌≤◌, false}
 use Rattle.cover.proofs.stands.survey.Given as goal
 
 abbrev pub invariant-loop-i : goal.invariant-loop-i

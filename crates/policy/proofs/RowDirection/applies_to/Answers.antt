@@ -2,7 +2,6 @@
 use mathlib.Core.Path.{sym, ap, ◌∙◌}
 use Rattle.policy.specs.Policy.{applies_to}
 use Rattle.policy.specs.declared.RowDirection.{RowDirection}
-use borrow.Author.Rules.{rules}
 use Rattle.policy.proofs.RowDirection.applies_to.Goals as goal
 
 pub returns-in-Only : goal.returns-in-Only
