@@ -2,7 +2,7 @@
  * A gateway with one policy and one SA pair decides two packets, and the rows of the policy file
  * are searched for the second by themselves.
  *
- *     cc -std=c99 -Wall -Wextra -Wpedantic -o example c/example.c target/staticlib/libspecksonne.a
+ *     cc -std=c99 -Wall -Wextra -Wpedantic -o example c/example.c crates/specksonne/out/libspecksonne.a
  */
 #include "specksonne.h"
 

@@ -11,7 +11,7 @@ fn main() {
     let archive = folder.join(ARCHIVE);
     if !archive.is_file() {
         eprintln!("{} is not there.", archive.display());
-        eprintln!("Prove and build it first, in the repository's root: rt staticlib specksonne");
+        eprintln!("Prove and build it first, in the repository's root: (cd crates/specksonne && rt lib)");
         eprintln!("(SPECKSONNE_LIB_DIR names another folder to look for {ARCHIVE} in.)");
         process::exit(1);
     }
@@ -20,12 +20,12 @@ fn main() {
     println!("cargo:rustc-link-lib=static=specksonne");
 }
 
-/// The folder that `rt staticlib` writes to, or the one that the environment names.
+/// The folder that `rt lib` writes to, or the one that the environment names.
 fn folder() -> PathBuf {
     if let Some(folder) = env::var_os("SPECKSONNE_LIB_DIR") {
         return PathBuf::from(folder);
     }
     let here = env::var_os("CARGO_MANIFEST_DIR").expect("cargo names the folder of the package");
-    let folder = Path::new(&here).join("../../target/staticlib");
+    let folder = Path::new(&here).join("../../crates/specksonne/out");
     fs::canonicalize(&folder).unwrap_or(folder)
 }

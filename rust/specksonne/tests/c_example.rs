@@ -16,7 +16,7 @@ fn root() -> PathBuf {
 
 fn library() -> PathBuf {
     env::var_os("SPECKSONNE_LIB_DIR")
-        .map_or(root().join("target/staticlib"), PathBuf::from)
+        .map_or(root().join("crates/specksonne/out"), PathBuf::from)
         .join("libspecksonne.a")
 }
 

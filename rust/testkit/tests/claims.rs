@@ -55,7 +55,7 @@ fn cited(row: &str) -> Vec<Cited<'_>> {
     all
 }
 
-/// Whether a file of specs/ defines a name, or proves a law of that name, where it declares it.
+/// Whether a file of specs/ or proofs/ defines a name, or proves a law of that name, where it declares it.
 fn declared(file: &str, name: &str) -> Option<&'static str> {
     file.lines().find_map(|line| {
         let words: Vec<&str> = line.split_whitespace().collect();
@@ -71,11 +71,16 @@ fn declared(file: &str, name: &str) -> Option<&'static str> {
     })
 }
 
+/// Whether a file has definitions or laws.
+fn antt(path: &str) -> bool {
+    path.contains("/specs/") || path.contains("/proofs/")
+}
+
 /// What a name in a file is, where the place alone says it.
 fn kinds_of(cited: &Cited, file: &str) -> Vec<&'static str> {
     match (cited.file, cited.name) {
-        (path, None) if path.contains("/specs/") || path.contains("/src/") => KINDS.to_vec(),
-        (path, Some(name)) if path.contains("/specs/") => {
+        (path, None) if antt(path) || path.contains("/src/") => KINDS.to_vec(),
+        (path, Some(name)) if antt(path) => {
             declared(file, name).into_iter().collect()
         }
         (path, _) if path.contains("/must-fail/") => vec!["refused"],

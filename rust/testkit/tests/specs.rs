@@ -1,4 +1,4 @@
-//! The name of a file of specs/ tells what is in it: definitions, which a reader has to believe, or
+//! The name of a file of specs/, or of laws in proofs/, tells what is in it: definitions, which a reader has to believe, or
 //! what follows from them. Laws are in files named `…Laws`, the demands' theorems in `Demand…`, worked
 //! examples in `Example…`; any other file says in its first lines that it has definitions.
 
@@ -12,13 +12,17 @@ fn root() -> PathBuf {
     Path::new(env!("CARGO_MANIFEST_DIR")).join("../..")
 }
 
-/// The files of specs/ of every crate, but for the roots, which only name the others.
+/// The files of specs/ of every crate and its files of laws in proofs/, but for the roots, which only name the others.
 fn specs() -> Vec<PathBuf> {
     let crates = fs::read_dir(root().join("crates")).expect("crates/ can be read");
-    let folders = crates.map(|entry| entry.expect("an entry").path().join("specs"));
+    let folders = crates.flat_map(|entry| {
+        let folder = entry.expect("an entry").path();
+        [folder.join("specs"), folder.join("proofs")]
+    });
     let entries = folders.filter_map(|folder| fs::read_dir(folder).ok()).flatten();
     let files = entries.map(|entry| entry.expect("an entry").path());
-    files.filter(|path| !path.ends_with("Lib.antt")).collect()
+    let antt = |path: &PathBuf| path.extension().is_some_and(|ending| ending == "antt");
+    files.filter(|path| antt(path) && !path.ends_with("Lib.antt")).collect()
 }
 
 fn named_as_laws(name: &str) -> bool {
