@@ -12,7 +12,6 @@ use mathlib.Core.List.{List, [], ◌∷◌, ◌++◌, Memᴰ}
 use Rattle.std.proofs.Math.Logic.{inl, inr, ⊎_elim}
 use Rattle.std.proofs.lemmas.List.{length-replicate}
 use Rattle.std.proofs.lemmas.List.Edits.{length-paste}
-use Rattle.selectors.specs.Words.{value_at}
 use Rattle.selectors.specs.declared.Direction.{Direction}
 use Rattle.selectors.proofs.StoresLaws.{paste-before, paste_in, paste-after}
 use Rattle.policy.specs.declared.Found.{Found}

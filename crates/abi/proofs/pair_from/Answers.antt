@@ -1,6 +1,5 @@
 -- `abi::pair_from` meets its contract: the ranges are read from their words. Assumes nothing.
 use Rattle.abi.specs.Words.{pair_from}
-use borrow.Author.Rules.{rules}
 use Rattle.abi.proofs.pair_from.Goals as goal
 
 pub returns : goal.returns

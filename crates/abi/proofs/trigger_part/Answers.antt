@@ -1,6 +1,5 @@
 -- `abi::trigger_part` meets its contract: the part is no longer than what ends where it ends. Assumes nothing.
 use Rattle.abi.specs.WordsLaws.{trigger-length}
-use borrow.Author.Rules.{rules}
 use Rattle.abi.proofs.trigger_part.Goals as goal
 
 pub overflow_sub-result : goal.overflow_sub-result

@@ -1,5 +1,4 @@
 -- `answer_numbers::compared_carries` meets its contract: the values of each answer. Assumes nothing.
-use borrow.Author.Rules.{rules}
 use Rattle.answer_numbers.proofs.compared_carries.Goals as goal
 
 pub returns-in-Same : goal.returns-in-Same

@@ -1,5 +1,4 @@
 -- `answer_numbers::verdict_carries` meets its contract: the values of each verdict. Assumes nothing.
-use borrow.Author.Rules.{rules}
 use Rattle.answer_numbers.proofs.verdict_carries.Goals as goal
 
 pub returns-in-Protect : goal.returns-in-Protect

@@ -10,7 +10,6 @@ use Rattle.sad.specs.PairsLaws.{live_at, live_nowhere, fitting_at}
 use Rattle.sad.specs.declared.Place.TheVariants.{At}
 use Rattle.verdicts.specs.Calls.{shows, from_sa_by}
 use Rattle.gateway.specs.TriggerLaws.{trigger-at}
-use borrow.Author.Rules.{rules}
 use Rattle.gateway.proofs.from_sa.Goals as goal
 
 pub returns-in_default : goal.returns-in_default

@@ -3,7 +3,6 @@ use mathlib.Core.Path.{◌≡◌, sym, ◌∙◌}
 use Rattle.selectors.specs.declared.Direction.TheVariants.{Out}
 use Rattle.packet.specs.Read.{read_trigger}
 use Rattle.packet.specs.declared.Reading.TheVariants.{Readable}
-use borrow.Author.Rules.{rules}
 use Rattle.gateway.proofs.from_trigger.Goals as goal
 
 pub returns-in_default : goal.returns-in_default

@@ -6,7 +6,6 @@ use Rattle.packet.specs.declared.Reading.TheVariants.{Readable}
 use Rattle.verdicts.specs.Calls.{inbound_by}
 use Rattle.own_ipsec.specs.OwnLaws.{own-answered, not_own}
 use Rattle.gateway.specs.Cached.{inbound_cached}
-use borrow.Author.Rules.{rules}
 use Rattle.gateway.proofs.inbound.Goals as goal
 
 pub returns-in_default : goal.returns-in_default

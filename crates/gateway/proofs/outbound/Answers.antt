@@ -2,7 +2,6 @@
 use mathlib.Core.Path.{sym, ◌∙◌}
 use Rattle.verdicts.specs.Calls.{outbound_by}
 use Rattle.gateway.specs.Cached.{outbound_cached}
-use borrow.Author.Rules.{rules}
 use Rattle.gateway.proofs.outbound.Goals as goal
 
 pub returns-in_default : goal.returns-in_default

@@ -8,7 +8,6 @@ use Rattle.spd_cache.proofs.LentLaws.{cache_kept}
 use Rattle.verdicts.specs.Calls.{inbound_by}
 use Rattle.own_ipsec.specs.OwnLaws.{own-answered, not_own}
 use Rattle.gateway.specs.Cached.{inbound_cached}
-use borrow.Author.Rules.{rules}
 use Rattle.gateway_in_place.proofs.inbound.Goals as goal
 
 pub returns-in_default : goal.returns-in_default

@@ -3,7 +3,6 @@ use mathlib.Core.Path.{refl, sym, ◌∙◌}
 use Rattle.spd_cache.proofs.LentLaws.{cache_kept}
 use Rattle.verdicts.specs.Calls.{outbound_by}
 use Rattle.gateway.specs.Cached.{outbound_cached}
-use borrow.Author.Rules.{rules}
 use Rattle.gateway_in_place.proofs.outbound.Goals as goal
 
 pub returns-in_default : goal.returns-in_default

@@ -2,7 +2,6 @@
 use mathlib.Core.Path.{sym, ◌∙◌}
 use borrow.Author.Tests.{not-true, not-false}
 use Rattle.own_ipsec.specs.OwnLaws.{own-protocol}
-use borrow.Author.Rules.{rules}
 use Rattle.own_ipsec.proofs.answer.Goals as goal
 
 pub returns-then-not-for_gateway : goal.returns-then-not-for_gateway

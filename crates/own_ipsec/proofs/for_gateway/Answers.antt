@@ -6,7 +6,6 @@ use borrow.Author.Tests.{not-true, not-false}
 use Rattle.selectors.specs.Value.{number}
 use Rattle.selectors.proofs.ValueLaws.{number-lower}
 use Rattle.verdicts.specs.Calls.{for_gateway}
-use borrow.Author.Rules.{rules}
 use Rattle.own_ipsec.proofs.for_gateway.Goals as goal
 
 pub returns-then-not-same : goal.returns-then-not-same

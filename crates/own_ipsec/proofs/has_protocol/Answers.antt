@@ -3,7 +3,6 @@ use mathlib.Core.Path.{refl, ap, ◌∙◌}
 use lib.Dec.{eqb}
 use Rattle.selectors.specs.Value.{number}
 use Rattle.selectors.proofs.ValueLaws.{number-lower}
-use borrow.Author.Rules.{rules}
 use Rattle.own_ipsec.proofs.has_protocol.Goals as goal
 
 pub returns : goal.returns

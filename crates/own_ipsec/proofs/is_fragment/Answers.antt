@@ -1,6 +1,5 @@
 -- `own_ipsec::is_fragment` meets its contract: the two tests are those of the definition. Assumes nothing.
 use borrow.Author.Tests.{eq-eqb, ne_eqb}
-use borrow.Author.Rules.{rules}
 use Rattle.own_ipsec.proofs.is_fragment.Goals as goal
 
 pub returns-then-packet-ne0 : goal.returns-then-packet-ne0

@@ -1,6 +1,5 @@
 -- `own_ipsec::least_upper` meets its contract: a length for ESP and one for AH. Assumes nothing.
 use mathlib.Core.Path.{sym, ◌∙◌}
-use borrow.Author.Rules.{rules}
 use Rattle.own_ipsec.proofs.least_upper.Goals as goal
 
 pub returns-then-has_protocol : goal.returns-then-has_protocol

@@ -1,6 +1,5 @@
 -- `own_ipsec::protocol_of` meets its contract: a number for ESP and one for AH. Assumes nothing.
 use mathlib.Core.Path.{sym, ◌∙◌}
-use borrow.Author.Rules.{rules}
 use Rattle.own_ipsec.proofs.protocol_of.Goals as goal
 
 pub returns-then-has_protocol : goal.returns-then-has_protocol

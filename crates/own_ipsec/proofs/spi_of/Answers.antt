@@ -1,6 +1,5 @@
 -- `own_ipsec::spi_of` meets its contract: a place for ESP and one for AH. Assumes nothing.
 use mathlib.Core.Path.{sym, ◌∙◌}
-use borrow.Author.Rules.{rules}
 use Rattle.own_ipsec.proofs.spi_of.Goals as goal
 
 pub returns-then-has_protocol : goal.returns-then-has_protocol

@@ -6,7 +6,6 @@ use mathlib.Core.Bool.{false}
 use borrow.Author.Tests.{not-true, not-false, lt-ltb, le-ltb}
 use Rattle.verdicts.specs.Calls.{esp_bytes, esp, fragment, to_ipsec}
 use Rattle.own_ipsec.specs.OwnLaws.{least_bytes}
-use borrow.Author.Rules.{rules}
 use Rattle.own_ipsec.proofs.to_ipsec.Goals as goal
 
 pub returns-then-is_fragment : goal.returns-then-is_fragment

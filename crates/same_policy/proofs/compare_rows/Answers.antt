@@ -1,10 +1,7 @@
 -- `same_policy::compare_rows` meets its contract: two policies are the same where they agree. Assumes nothing.
-use mathlib.Core.Path.{◌≡◌, ap, sym, ◌∙◌}
+use mathlib.Core.Path.{ap, sym, ◌∙◌}
 use mathlib.Core.Bool.{Bool, cond}
-use Rattle.policy.specs.Words.{policy_rows}
-use Rattle.policy_text.specs.Editions.{rules, rows}
 use Rattle.same_policy.specs.declared.Compared.TheVariants.{Same, Different}
-use Rattle.same_policy.specs.Same.{compared}
 use Rattle.same_policy.proofs.SameLaws.{by_agreement}
 use Rattle.same_policy.proofs.compare_rows.Goals as goal
 

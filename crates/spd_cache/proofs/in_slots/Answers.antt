@@ -2,7 +2,6 @@
 use native.Mathlib.Omega.{arith}
 use mathlib.Core.Path.{◌∙◌}
 use lib.ListN.{length-take}
-use borrow.Author.Rules.{rules}
 use Rattle.spd_cache.proofs.in_slots.Goals as goal
 
 pub slice_bounds-first_match-end : goal.slice_bounds-first_match-end

@@ -1,9 +1,9 @@
 -- `spd_cache::put_row` meets its contract. The loop's invariant: the first `i` words of the row are copied. Assumes nothing.
-use Prim.Native.Nat.{◌*◌, ◌≤◌, ◌-◌}
+use Prim.Native.Nat.{◌*◌}
 use native.Mathlib.Omega.{arith}
 use mathlib.Core.Path.{◌≡◌, refl, ◌∙◌}
-use lib.ListN.{length, drop, length-set}
-use lib.Seq.{paste, paste-zero}
+use lib.ListN.{drop, length-set}
+use lib.Seq.{paste-zero}
 use Rattle.spd_cache.proofs.CacheLaws.{copy-next}
 use Rattle.policy.specs.Words.{row_words}
 use borrow.Author.Rules.{rules}

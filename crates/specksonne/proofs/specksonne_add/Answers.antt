@@ -1,6 +1,5 @@
 -- `specksonne::specksonne_add` meets its contract: the answer in numbers. Assumes nothing.
 use mathlib.Core.Path.{refl}
-use borrow.Author.Rules.{rules}
 use Rattle.specksonne.proofs.specksonne_add.Goals as goal
 
 pub returns : goal.returns

@@ -3,7 +3,6 @@ use mathlib.Core.Path.{refl, ap, ◌∙◌}
 use Rattle.acceptance.specs.declared.Caches.{Caches}
 use Rattle.spd_cache.specs.Lent.{cache_words}
 use Rattle.specksonne.specs.FreshLaws.{fresh-pairs}
-use borrow.Author.Rules.{rules}
 use Rattle.specksonne.proofs.specksonne_fresh.Goals as goal
 
 pub returns : goal.returns

@@ -1,6 +1,5 @@
 -- `specksonne::specksonne_from_sa` meets its contract: the answer in numbers. Assumes nothing.
 use mathlib.Core.Path.{refl}
-use borrow.Author.Rules.{rules}
 use Rattle.specksonne.proofs.specksonne_from_sa.Goals as goal
 
 pub returns : goal.returns

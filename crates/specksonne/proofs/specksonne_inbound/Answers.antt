@@ -1,6 +1,5 @@
 -- `specksonne::specksonne_inbound` meets its contract: the answer in numbers, and the cache as it was left in place. Assumes nothing.
 use mathlib.Core.Path.{refl}
-use borrow.Author.Rules.{rules}
 use Rattle.specksonne.proofs.specksonne_inbound.Goals as goal
 
 pub returns : goal.returns

@@ -1,6 +1,5 @@
 -- `specksonne::specksonne_parse` meets its contract: the answer in numbers. Assumes nothing.
 use mathlib.Core.Path.{refl}
-use borrow.Author.Rules.{rules}
 use Rattle.specksonne.proofs.specksonne_parse.Goals as goal
 
 pub returns : goal.returns

@@ -1,6 +1,5 @@
 -- `specksonne::specksonne_policy` meets its contract: the answer in numbers, and the caches handed back in words. Assumes nothing.
 use mathlib.Core.Path.{refl}
-use borrow.Author.Rules.{rules}
 use Rattle.specksonne.proofs.specksonne_policy.Goals as goal
 
 pub returns : goal.returns

@@ -3,7 +3,6 @@ use mathlib.Core.Path.{◌≡◌, refl, sym, ap, ◌∙◌}
 use Rattle.selectors.specs.declared.Direction.{Direction}
 use Rattle.packet.specs.Read.{read_packet}
 use Rattle.abi.specs.Words.{direction_of_number}
-use borrow.Author.Rules.{rules}
 use Rattle.specksonne.proofs.specksonne_read.Goals as goal
 
 pub returns-in-Readable : goal.returns-in-Readable

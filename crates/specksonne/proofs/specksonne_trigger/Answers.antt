@@ -1,6 +1,5 @@
 -- `specksonne::specksonne_trigger` meets its contract: the part of what was read, in words. Assumes nothing.
 use mathlib.Core.Path.{refl, sym, ◌∙◌}
-use borrow.Author.Rules.{rules}
 use Rattle.specksonne.proofs.specksonne_trigger.Goals as goal
 
 pub returns-in-Readable : goal.returns-in-Readable

@@ -3,7 +3,6 @@ use mathlib.Core.Path.{sym, ap, ◌∙◌}
 use Rattle.selectors.specs.Value.{combination}
 use Rattle.sad.specs.Pairs.{pairs}
 use Rattle.verdicts.specs.Calls.{outbound_action}
-use borrow.Author.Rules.{rules}
 use Rattle.verdicts.proofs.outbound_action.Goals as goal
 
 pub returns-in-Protect : goal.returns-in-Protect

@@ -1,7 +1,6 @@
 -- `verdicts::protect` meets its contract: the pair that was found, or none. Assumes nothing.
 use mathlib.Core.Path.{sym, ap, ◌∙◌}
 use Rattle.verdicts.specs.Calls.{protected}
-use borrow.Author.Rules.{rules}
 use Rattle.verdicts.proofs.protect.Goals as goal
 
 pub returns-in-Found : goal.returns-in-Found

@@ -7,7 +7,6 @@ use Rattle.selectors.specs.Value.{combination}
 use Rattle.policy.specs.Words.{row_words}
 use Rattle.spd_cache.specs.Cache.{slot_count}
 use Rattle.spd_cache.proofs.CacheLaws.{row_bound, slot_bound, used_action, lookup_hit, lookup_miss, lookup_none}
-use borrow.Author.Rules.{rules}
 use Rattle.spd_cache.proofs.Cache.lookup.Goals as goal
 
 pub action_at-requires : goal.action_at-requires

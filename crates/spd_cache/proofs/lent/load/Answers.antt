@@ -1,6 +1,5 @@
 -- `lent::load` meets its contract: the words of the slots, and two numbers. Assumes nothing.
 use Rattle.spd_cache.specs.Lent.{cache_from}
-use borrow.Author.Rules.{rules}
 use Rattle.spd_cache.proofs.lent.load.Goals as goal
 
 pub returns : goal.returns

@@ -10,7 +10,6 @@ use Rattle.spd_cache.specs.Cache.{slot_count, cached, looked_up}
 use Rattle.spd_cache.proofs.CacheLaws.{lookup_hit}
 use Rattle.spd_cache.specs.Lent.{count_at, cache_from}
 use Rattle.spd_cache.proofs.LentLaws.{cache_kept, hit_below, hit_action}
-use borrow.Author.Rules.{rules}
 use Rattle.spd_cache.proofs.lent.lookup.Goals as goal
 
 pub action_at-requires : goal.action_at-requires

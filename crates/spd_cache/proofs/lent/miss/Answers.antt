@@ -6,7 +6,6 @@ use Rattle.selectors.specs.Value.{combination}
 use Rattle.policy.specs.Words.{row_words}
 use Rattle.spd_cache.proofs.CacheLaws.{row_bound}
 use Rattle.spd_cache.proofs.LentLaws.{cache_kept}
-use borrow.Author.Rules.{rules}
 use Rattle.spd_cache.proofs.lent.miss.Goals as goal
 
 pub returns-in_default : goal.returns-in_default

@@ -1,9 +1,9 @@
 -- `lent::put` meets its contract. The loop's invariant: the first `i` words are copied. Assumes nothing.
-use Prim.Native.Nat.{ℕ, ◌-◌, ◌≤◌}
+use Prim.Native.Nat.{ℕ}
 use native.Mathlib.Omega.{arith}
 use mathlib.Core.Path.{◌≡◌, refl, sym, subst, ◌∙◌}
-use lib.ListN.{length, take, length-set}
-use Rattle.spd_cache.specs.Lent.{cache_size, cache_words}
+use lib.ListN.{take, length-set}
+use Rattle.spd_cache.specs.Lent.{cache_words}
 use Rattle.spd_cache.proofs.LentLaws.{copied_next, two_more}
 use Rattle.spd_cache.specs.Cache.{slots_words}
 use borrow.Author.Rules.{rules}

@@ -1,7 +1,6 @@
 -- `lent::slot_of` meets its contract: the slots in use are read off the words that are lent. Assumes nothing.
 use mathlib.Core.Path.{◌∙◌}
 use Rattle.spd_cache.proofs.LentLaws.{slots-in_use}
-use borrow.Author.Rules.{rules}
 use Rattle.spd_cache.proofs.lent.slot_of.Goals as goal
 
 pub returns : goal.returns

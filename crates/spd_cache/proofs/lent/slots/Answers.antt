@@ -1,8 +1,8 @@
 -- `lent::slots` meets its contract. The loop's invariant: the first `i` words are copied. Assumes nothing.
-use Prim.Native.Nat.{ℕ, ◌-◌, ◌≤◌}
+use Prim.Native.Nat.{ℕ}
 use native.Mathlib.Omega.{arith}
 use mathlib.Core.Path.{◌≡◌, refl, subst, ◌∙◌}
-use lib.ListN.{length, take, length-set}
+use lib.ListN.{take, length-set}
 use Rattle.spd_cache.proofs.LentLaws.{copied_next, copied_whole}
 use Rattle.spd_cache.specs.Cache.{slots_words}
 use borrow.Author.Rules.{rules}
