@@ -31,7 +31,9 @@ fn crates(list: &str) -> Vec<Crate<'_>> {
         let line = line.split('#').next().unwrap_or_default();
         if let Some((name, rest)) = line.split_once(':') {
             let rests_on = rest.split_whitespace().collect();
-            all.push(Crate { name: name.trim(), section, rests_on });
+            // A static library says so after its name.
+            let name = name.trim().trim_end_matches(" staticlib");
+            all.push(Crate { name, section, rests_on });
         }
     }
     all

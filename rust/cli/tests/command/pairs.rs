@@ -5,6 +5,7 @@ use crate::captures::{ethernet, packet};
 use crate::{check, file, specksonne, WORKED_EXAMPLE};
 use std::path::Path;
 use std::process::Output;
+use std::sync::atomic::{AtomicUsize, Ordering};
 
 const LINE: &str = "esp\t256\t300\t7\tany\tany\tany\tany\tany\n";
 
@@ -34,11 +35,13 @@ fn spis_are_decimal_or_hexadecimal() {
     }
 }
 
-/// A file whose third line is this one is not read.
+/// A file whose third line is this one is not read. (Tests run at once: each call has a file of its own.)
 #[track_caller]
 fn bad(line: &str, words: &str) {
-    let output = with_pairs("bad-line", &format!("# a comment\n\n{line}"), b"");
-    let name = Path::new(env!("CARGO_TARGET_TMPDIR")).join("bad-line.pairs");
+    static CALLS: AtomicUsize = AtomicUsize::new(0);
+    let file = format!("bad-line-{}", CALLS.fetch_add(1, Ordering::Relaxed));
+    let output = with_pairs(&file, &format!("# a comment\n\n{line}"), b"");
+    let name = Path::new(env!("CARGO_TARGET_TMPDIR")).join(file).with_extension("pairs");
     check(&output, 2, "", &format!("specksonne: {}: line 3: {words}\n", name.display()));
 }
 
