@@ -2,6 +2,7 @@ pub mod SearchLaws
 pub mod RunsLaws
 pub mod Laws
 pub mod LayoutLaws
+pub mod LayoutAsWrittenLaws
 pub mod ShapeLaws
 pub mod LoopLaws
 pub mod MapLaws

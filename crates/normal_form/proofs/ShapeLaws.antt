@@ -14,10 +14,10 @@ use mathlib.Core.List.{List, [], ◌∷◌, ◌++◌, map, Memᴰ}
 use Rattle.std.proofs.Math.Logic.{⊎_elim}
 use Rattle.std.proofs.Math.ListN.{get_elem?, length}
 use Rattle.std.proofs.lemmas.List.{length-map}
-use Rattle.selectors.specs.Range.{Range, holds}
+use Rattle.selectors.specs.Range.{Range, holds, full}
 use Rattle.normal_form.specs.Search.{Row, Combination, find}
 use Rattle.normal_form.specs.NormalForm.{Intervals, start, ◌▸◌, under, rows_of, normal_form}
-use Rattle.selectors.proofs.RangeLaws.{contains_between}
+use Rattle.selectors.proofs.RangeLaws.{contains_between, full-holds}
 use Rattle.normal_form.proofs.SearchLaws.{holds-cons, find_first, find_skip, find_mem}
 use Rattle.normal_form.proofs.RunsLaws.{Runs, runs_longest}
 use Rattle.normal_form.proofs.Laws.{leaf_cases, search-normal_form}
@@ -63,6 +63,18 @@ fits-combination (S ∷ Ss) [] vs f p = absurd f
 fits-combination (S ∷ Ss) (r ∷ rs) [] f p = false≢true p
 fits-combination (S ∷ Ss) (r ∷ rs) (v ∷ vs) f p =
     let h = holds-cons r rs v vs p in (omega (arith, contains_between r v h.0), fits-combination Ss rs vs f.2 h.1)
+
+-- 'A combination is one value for each of the five fields, any that the field's ANY holds', of fields that have values: a combination is exactly
+-- what the ANY ranges hold.
+pub combination_any : (sizes vs : List ℕ) → Fits sizes (map full sizes) → Combination sizes vs ↔ (holds (map full sizes) vs ≡ true)
+unfolding holds Combination
+combination_any sizes vs fits = (held sizes vs, fits-combination sizes (map full sizes) vs fits)
+  where
+    held : (Ss us : List ℕ) → Combination Ss us → holds (map full Ss) us ≡ true
+    held [] [] ok = refl
+    held [] (u ∷ us) ok = absurd ok
+    held (S ∷ Ss) [] ok = absurd ok
+    held (S ∷ Ss) (u ∷ us) ok = rw (full-holds S u ok.0) (held Ss us ok.1)
 
 -- Of two rows, one before the other, no values are held by both.
 pub before_apart : (rs qs : List Range) (vs : List ℕ) → Before rs qs → holds rs vs ≡ true → holds qs vs ≡ true → ⊥

@@ -1,3 +1,4 @@
 pub mod Normalise
 pub mod StepsLaws
 pub mod Demand3
+pub mod Demand3AsWritten

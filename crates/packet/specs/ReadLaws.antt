@@ -1,9 +1,11 @@
 -- Laws of reading a packet. Assumes nothing.
-use Rattle.std.specs.Prelude.{ℕ, ◌+◌, ◌≤◌, ◌<◌, min, ◌≡◌, refl, Bool, false, cond, ◌&&◌, List, ◌++◌, eqb, length, take}
-use Rattle.std.proofs.Common.{arith, sym, ap, ◌∙◌, length-append, length-take-le, get_or-take}
+use Rattle.std.specs.Prelude.{ℕ, ◌+◌, ◌≤◌, ◌<◌, min, ◌≡◌, ◌≢◌, ◌⊎◌, ◌↔◌, refl, Bool, false, cond, ◌&&◌, List, ◌++◌, eqb, length, take}
+use Rattle.std.proofs.Common.{arith, sym, ap, ◌∙◌, inl, inr, length-append, length-take-le, get_or-take}
+use Rattle.std.proofs.Math.Decide.{dec_lt, ℕ_discrete}
 use Rattle.std.proofs.Math.Bool.{true}
+use Rattle.std.proofs.lemmas.Bool.{false≢true}
 use Rattle.std.proofs.Math.ListN.{get_or-append}
-use borrow.Author.Tests.{leb-true, le-leb}
+use borrow.Author.Tests.{leb-true, le-leb, eqb-true}
 use Rattle.selectors.specs.Range.{absent, address_size, protocol_size, port_size}
 use Rattle.selectors.proofs.RangeLaws.{both_true}
 use Rattle.selectors.specs.Value.{number}
@@ -13,7 +15,7 @@ use Rattle.selectors.specs.declared.Direction.{Direction}
 use Rattle.selectors.specs.declared.Direction.TheVariants.{Out, In}
 use Rattle.packet.specs.Header.{Bytes, byte, two, four, total_length_at, flags_at, protocol_at, source_at, destination_at, shortest_header, header_end, total_length, fragment_offset, protocol, source, destination}
 use Rattle.packet.specs.Read.{Shown, ports, type_and_code, nothing, ports_bytes, destination_port_at, type_and_code_bytes, shown, header_good, readable, trigger_readable, carries_ports, is_icmp, local, remote, local_port_of, remote_port_of, value, packet_of, read_packet, read_trigger}
-use Rattle.packet.specs.StepsLaws.{Inside, good-header, good-field, good_upper, ports_not_icmp, shown_each, shown_later}
+use Rattle.packet.specs.StepsLaws.{Inside, good-header, good-field, good_upper, ports_not_icmp, shown_each, shown_later, shown-ports, shown_few-ports, shown_type, shown_few_type, shown_other}
 use Rattle.packet.specs.declared.Packet.{Packet}
 use Rattle.packet.specs.declared.Reading.{Reading}
 use Rattle.packet.specs.declared.Reading.TheVariants.{Readable, Unreadable}
@@ -287,3 +289,93 @@ read_in_fields d p k b s =
       local-port = number_below _ _ (local_port_below d (shown p s.end) w);
       remote-port = number_below _ _ (remote_port_below d (shown p s.end) w);
     }
+
+-- Where nothing is shown, and where no remote port is.
+icmp_not_ports : (n : ℕ) → is_icmp n ≡ true → carries_ports n ≡ false
+icmp_not_ports n i = by (carries_ports n) refl
+  where
+    by : (b : Bool) → carries_ports n ≡ b → carries_ports n ≡ false
+    by true h = absurd (false≢true (sym (ports_not_icmp n h) ∙ i))
+    by false h = h
+
+module _ (d : Direction) (p : List ℕ) (end : ℕ) where
+  abbrev NoLocal : Type 0
+  NoLocal =
+      (fragment_offset p ≢ 0)
+      ⊎ ((carries_ports (protocol p) ≡ false) × (is_icmp (protocol p) ≡ false))
+      ⊎ ((carries_ports (protocol p) ≡ true) × (end < header_end p + ports_bytes))
+      ⊎ ((is_icmp (protocol p) ≡ true) × (end < header_end p + type_and_code_bytes))
+
+  abbrev NoRemote : Type 0
+  NoRemote = (fragment_offset p ≢ 0) ⊎ (carries_ports (protocol p) ≡ false) ⊎ (end < header_end p + ports_bytes)
+
+  no_local : NoLocal → shown p end ≡ nothing
+  no_local (inl n) = shown_later p end n
+  no_local (inr (inl h)) = shown_other p end h.0 h.1
+  no_local (inr (inr (inl h))) = shown_few-ports p end h.0 h.1
+  no_local (inr (inr (inr h))) = shown_few_type p end (icmp_not_ports (protocol p) h.0) h.1
+
+  no_remote_ports : carries_ports (protocol p) ≡ false → remote_port_of d (shown p end) ≡ absent
+  no_remote_ports h = shown_each p end (λ s. remote_port_of d s ≡ absent) (λ e. absurd (false≢true (sym h ∙ e))) (λ e. refl) refl
+
+  no_remote : NoRemote → remote_port_of d (shown p end) ≡ absent
+  no_remote (inl n) = rw (shown_later p end n)
+  no_remote (inr (inl h)) = no_remote_ports h
+  no_remote (inr (inr l)) = by (carries_ports (protocol p)) refl
+    where
+      by : (b : Bool) → carries_ports (protocol p) ≡ b → remote_port_of d (shown p end) ≡ absent
+      by true h = rw (shown_few-ports p end h l)
+      by false h = no_remote_ports h
+
+  module _ (b : Bytes p) where
+    local_none : local_port_of d (shown p end) ≡ absent → NoLocal
+    local_none e =
+        by (ℕ_discrete (fragment_offset p) 0) (carries_ports (protocol p)) refl (is_icmp (protocol p)) refl
+        (dec_lt end (header_end p + ports_bytes)) (dec_lt end (header_end p + type_and_code_bytes))
+      where
+        by : Dec (fragment_offset p ≡ 0) → (h : Bool) → carries_ports (protocol p) ≡ h → (i : Bool) → is_icmp (protocol p) ≡ i
+            → Dec (end < header_end p + ports_bytes) → Dec (end < header_end p + type_and_code_bytes) → NoLocal
+        by (no n) h eh i ei l m = inl n
+        by (yes o) true h i ei (yes l) m = inr (inr (inl (h, l)))
+        by (yes o) true h i ei (no l) m =
+            let at = two_below p b in
+            let z : local d (two p (header_end p)) (two p (header_end p + destination_port_at)) ≡ absent = rw (shown-ports p end o h (omega arith)) at e in
+            absurd (omega (arith, local_below d _ _ absent (at (header_end p)) (at (header_end p + destination_port_at))))
+        by (yes o) false h false i l m = inr (inl (h, i))
+        by (yes o) false h true i l (yes m) = inr (inr (inr (i, m)))
+        by (yes o) false h true i l (no m) =
+            let z : two p (header_end p) ≡ absent = rw (shown_type p end o h (eqb-true _ _ i) (omega arith)) at e in
+            absurd (omega (arith, two_below p b (header_end p)))
+
+    remote_none : remote_port_of d (shown p end) ≡ absent → NoRemote
+    remote_none e = by (ℕ_discrete (fragment_offset p) 0) (carries_ports (protocol p)) refl (dec_lt end (header_end p + ports_bytes))
+      where
+        by : Dec (fragment_offset p ≡ 0) → (h : Bool) → carries_ports (protocol p) ≡ h → Dec (end < header_end p + ports_bytes) → NoRemote
+        by (no n) h eh l = inl n
+        by (yes o) h eh (yes l) = inr (inr l)
+        by (yes o) false h (no l) = inr (inl h)
+        by (yes o) true h (no l) =
+            let at = two_below p b in
+            let z : remote d (two p (header_end p)) (two p (header_end p + destination_port_at)) ≡ absent = rw (shown-ports p end o h (omega arith)) at e in
+            absurd (omega (arith, remote_below d _ _ absent (at (header_end p)) (at (header_end p + destination_port_at))))
+
+packet_is : (d : Direction) (p : List ℕ) (k : Packet) → read_packet d p ≡ Readable k → packet_of d p (total_length p) ≡ k
+unfolding read_packet
+packet_is d p k e = (cond-readable (readable p) _ k e).1
+
+-- 'Other protocols, a fragment offset other than 0, or too few upper bytes: both absent', and at no other time; ICMP's 'remote port is absent'.
+module _ (d : Direction) (p : List ℕ) (k : Packet) (b : Bytes p) (e : read_packet d p ≡ Readable k) where
+  pub local_port-absent : (number k.selectors.local_port ≡ absent)
+      ↔ ((fragment_offset p ≢ 0)
+      ⊎ ((carries_ports (protocol p) ≡ false) × (is_icmp (protocol p) ≡ false))
+      ⊎ ((carries_ports (protocol p) ≡ true) × (total_length p < header_end p + ports_bytes))
+      ⊎ ((is_icmp (protocol p) ≡ true) × (total_length p < header_end p + type_and_code_bytes)))
+  local_port-absent =
+      rw (sym (packet_is d p k e), number-lower (value (local_port_of d (shown p (total_length p)))) refl)
+      (local_none d p (total_length p) b, λ h. ap (local_port_of d) (no_local d p (total_length p) h))
+
+  pub remote_port-absent : (number k.selectors.remote_port ≡ absent)
+      ↔ ((fragment_offset p ≢ 0) ⊎ (carries_ports (protocol p) ≡ false) ⊎ (total_length p < header_end p + ports_bytes))
+  remote_port-absent =
+      rw (sym (packet_is d p k e), number-lower (value (remote_port_of d (shown p (total_length p)))) refl)
+      (remote_none d p (total_length p) b, no_remote d p (total_length p))

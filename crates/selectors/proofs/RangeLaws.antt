@@ -1,5 +1,5 @@
 -- Laws of ranges. Assumes nothing.
-use Rattle.std.specs.Prelude.{ℕ, suc, ◌+◌, ◌≤◌, ◌<◌, ◌≡◌, refl, Bool, true, false, not, ◌&&◌, List, [], ◌∷◌, leb, ltb, eqb, length}
+use Rattle.std.specs.Prelude.{ℕ, zero, suc, ◌+◌, ◌≤◌, ◌<◌, ◌≡◌, ◌↔◌, refl, Bool, true, false, not, ◌&&◌, List, [], ◌∷◌, leb, ltb, eqb, length, get_or}
 use Rattle.std.proofs.Common.{arith, add-one, ap, le-leb, leb-true, lt-ltb, le-ltb, eq-eqb, ne_eqb, eqb-true}
 use Rattle.std.proofs.Math.Decide.{dec_le, dec_lt, ℕ_discrete}
 use Rattle.std.proofs.Math.Bool.{and-false}
@@ -51,6 +51,14 @@ pub in_field_ordered : (h : ℕ) (r : Range) → r.low ≤ r.high → not (ltb h
 unfolding in_field
 in_field_ordered h r p = rw (le-leb r.low r.high p, add-one, leb-suc-suc) (not-ltb h r.high)
 
+-- No range whose high end is a port number holds absent: it is not a number. A range holds absent exactly where it begins at absent or below
+-- and ends at absent or beyond.
+pub numbers_never_absent : (r : Range) → r.high ≤ 65535 → contains r absent ≡ false
+numbers_never_absent r h = contains_above r absent (omega arith)
+
+pub absent_held : (r : Range) → (contains r absent ≡ true) ↔ ((r.low ≤ absent) × (absent ≤ r.high))
+absent_held r = (contains_between r absent, λ h. contains_in r absent h.0 h.1)
+
 -- ANY holds every value of its field, the absent port too; 0 to 65,535 does not hold absent; OPAQUE holds absent alone.
 pub full-holds : (size v : ℕ) → v < size → contains (full size) v ≡ true
 full-holds size v h = contains_in (full size) v (omega arith) (omega arith)
@@ -88,3 +96,12 @@ holds-length [] [] e = refl
 holds-length [] (v ∷ vs) e = absurd (false≢true e)
 holds-length (r ∷ rs) [] e = absurd (false≢true e)
 holds-length (r ∷ rs) (v ∷ vs) e = ap suc (holds-length rs vs (both_true (contains r v) (holds rs vs) e).1)
+
+-- And each holds the value of its own field.
+pub holds_each : (rs : List Range) (vs : List ℕ) (i : ℕ) (r : Range) → holds rs vs ≡ true → i < length vs → contains (get_or rs i r) (get_or vs i 0) ≡ true
+unfolding holds
+holds_each [] [] i r e h = absurd (omega arith)
+holds_each [] (v ∷ vs) i r e h = absurd (false≢true e)
+holds_each (q ∷ rs) [] i r e h = absurd (omega arith)
+holds_each (q ∷ rs) (v ∷ vs) zero r e h = (both_true (contains q v) (holds rs vs) e).0
+holds_each (q ∷ rs) (v ∷ vs) (suc i) r e h = holds_each rs vs i r (both_true (contains q v) (holds rs vs) e).1 (omega arith)
