@@ -1,7 +1,6 @@
 -- What the gateway sees in a packet (document 01; docs/RULES.md, 'What is read in a packet'). Assumes nothing: these are definitions.
 use Rattle.std.specs.Prelude.{ℕ, ◌+◌, ◌-◌, ◌/◌, min, Bool, cond, not, ◌&&◌, ◌||◌, List, leb, eqb, length, take, drop}
 use Rattle.selectors.specs.Range.{absent}
-use Rattle.selectors.specs.Value.{combination}
 use Rattle.selectors.specs.declared.Value.{Value}
 use Rattle.selectors.specs.declared.Selectors.{Selectors}
 use Rattle.selectors.specs.declared.Direction.{Direction}
@@ -98,10 +97,6 @@ packet_of d p end =
       upper = header_end p;
       end = end;
     }
-
--- The combination that a packet shows: its five values.
-abbrev pub shows : Packet → List ℕ
-shows k = combination k.selectors
 
 -- A packet: 'the upper part runs from header end to total length'.
 unfoldable pub read_packet : Direction → List ℕ → Reading
