@@ -11,9 +11,26 @@ use std::io::Read;
 
 // Of standard input 65,536 bytes are read, and no more.
 fn main(rt: HostRuntime) -> io::Result<()> {
-    let mut text = Vec::new(rt.alloc());
-    rt.reader().take(65536).read_to_end(&mut text)?;
-    each_file(&rt, &text)
+    let mut text = [0u8; 65536];
+    let n = read_full(&mut rt.reader(), &mut text);
+    each_file(&rt, &text[..n])
+}
+
+// Reads until the room is full, the input ends or a read fails. What was read stands at the start of the room.
+fn read_full(input: &mut impl Read, room: &mut [u8]) -> usize
+    ensures { result ≤ length room.new }
+{
+    let mut done: usize = 0;
+    while done < room.len() {
+        let Ok(more) = input.read(&mut room[done..]) else {
+            return done;
+        };
+        if more == 0 {
+            return done;
+        }
+        done += more;
+    }
+    done
 }
 
 fn each_file(rt: &impl Print, text: &[u8]) -> io::Result<()> {
