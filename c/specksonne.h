@@ -2,8 +2,8 @@
  * Specksonne: the policy gate of an IPsec gateway (RFC 4301, IPv4).
  *
  * Each function is proved to end, for any arguments, to touch no memory but what it is lent, and to
- * answer by document 01's rules. Link with target/staticlib/libspecksonne.a, which
- * `rt staticlib specksonne` proves and writes (x86-64).
+ * answer by document 01's rules. Link with crates/specksonne/out/libspecksonne.a,
+ * which `rt lib` in crates/specksonne proves and writes (x86-64).
  *
  * What the caller owes:
  * - A pointer beside a count is to that many elements, a pointer to an array to as many as the

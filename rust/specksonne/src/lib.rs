@@ -9,7 +9,7 @@
 //! - [`row_fault`], [`RowFault`]: why a row, or the ranges of a pair, are refused, in words.
 //! - [`ffi`]: the library's functions over words, as C sees them.
 //!
-//! The library is built by `rt staticlib specksonne` in the repository's root.
+//! The library is built by `rt lib` in `crates/specksonne`.
 //!
 //! # Stack
 //!
