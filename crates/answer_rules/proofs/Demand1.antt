@@ -32,11 +32,7 @@ pub out-0 : (search : List ℕ → Action) (pairs : List Pair) (p : List ℕ)
     → (verdict_number (outbound_by search pairs p) ≡ 0) ↔ ((k : Packet) × (read_packet Out p ≡ Readable k) × (search (shows k) ≡ Bypass))
 out-0 search pairs p = verdict_exactly (outbound-ruled search pairs p) 0 refl
 
--- Coming in from outside, 'if the destination is the gateway and the protocol 50 or 51: … Anything else is searched: bypass 0'.
-pub in-0 : (search : List ℕ → Action) (address : ℕ) (pairs : List Pair) (p : List ℕ)
-    → (verdict_number (inbound_by search address pairs p) ≡ 0)
-    ↔ ((k : Packet) × (read_packet In p ≡ Readable k) × (¬ (ForGateway address k)) × (search (shows k) ≡ Bypass))
-in-0 search address pairs p = verdict_exactly (inbound-ruled search address pairs p) 0 refl
+-- (Coming in from outside: Demand1ClearIn.)
 
 -- 1, deliver. From an association: 'Values in its ranges: 1', or an ICMP error message of which the triggering header is 'read as going out':
 -- 'does it fit the ranges? Yes: 1'.

@@ -21,13 +21,12 @@ use Rattle.acceptance.specs.declared.Acceptance.{Acceptance}
 use Rattle.acceptance.specs.declared.Acceptance.TheVariants.{Accepted, Refused as RefusedFile, TooLarge as OverForm}
 use Rattle.answer_rules.proofs.AmongLaws.{among, among_list}
 use Rattle.answer_rules.specs.Terms.{normalised_file, accepted_file}
+use Rattle.answer_rules.specs.AnswerNumbers.{out_numbers, in_numbers, sa_numbers, add_numbers, remove_numbers, accept_numbers, normalise_numbers}
 use Rattle.answer_rules.proofs.PacketRulesLaws.{OutboundRule, InboundRule, FromSaRule, outbound-ruled, inbound-ruled, from_sa-ruled}
-use Rattle.answer_rules.proofs.PairRulesLaws.{AddRule, RemoveRule, add-ruled, remove-ruled}
+use Rattle.answer_rules.specs.PairRules.{AddRule, RemoveRule}
+use Rattle.answer_rules.proofs.PairRulesLaws.{add-ruled, remove-ruled}
 
 -- Going out.
-abbrev pub out_numbers : List ℕ
-out_numbers = 0 ∷ 2 ∷ 3 ∷ 10 ∷ 11 ∷ []
-
 pub out_answers : (search : List ℕ → Action) (pairs : List Pair) (p : List ℕ)
     → Memᴰ (verdict_number (outbound_by search pairs p)) out_numbers
 out_answers search pairs p = among_list _ _ (by (outbound_by search pairs p) (outbound-ruled search pairs p).holds)
@@ -49,9 +48,6 @@ out_answers search pairs p = among_list _ _ (by (outbound_by search pairs p) (ou
     by TriggerDoesNotFit h = absurd h
 
 -- Coming in from outside.
-abbrev pub in_numbers : List ℕ
-in_numbers = 0 ∷ 4 ∷ 10 ∷ 11 ∷ 12 ∷ 13 ∷ 15 ∷ 16 ∷ []
-
 pub in_answers : (search : List ℕ → Action) (address : ℕ) (pairs : List Pair) (p : List ℕ)
     → Memᴰ (verdict_number (inbound_by search address pairs p)) in_numbers
 in_answers search address pairs p = among_list _ _ (by (inbound_by search address pairs p) (inbound-ruled search address pairs p).holds)
@@ -73,9 +69,6 @@ in_answers search address pairs p = among_list _ _ (by (inbound_by search addres
     by TriggerDoesNotFit h = absurd h
 
 -- Coming in from an association.
-abbrev pub sa_numbers : List ℕ
-sa_numbers = 1 ∷ 10 ∷ 13 ∷ 14 ∷ 17 ∷ 18 ∷ []
-
 pub sa_answers : (protocol spi : ℕ) (pairs : List Pair) (p : List ℕ)
     → Memᴰ (verdict_number (from_sa_by protocol spi pairs p)) sa_numbers
 sa_answers protocol spi pairs p = among_list _ _ (by (from_sa_by protocol spi pairs p) (from_sa-ruled protocol spi pairs p).holds)
@@ -97,9 +90,6 @@ sa_answers protocol spi pairs p = among_list _ _ (by (from_sa_by protocol spi pa
     by TriggerDoesNotFit h = refl
 
 -- Adding a pair, and removing one.
-abbrev pub add_numbers : List ℕ
-add_numbers = 5 ∷ 25 ∷ 26 ∷ 27 ∷ 28 ∷ []
-
 pub add_answers : (ws : List ℕ) (q : NewPair) → Memᴰ (outcome_number (add_outcome (pairs ws) q)) add_numbers
 add_answers ws q = among_list _ _ (by (add_outcome (pairs ws) q) (add-ruled ws q).holds)
   where
@@ -110,9 +100,6 @@ add_answers ws q = among_list _ _ (by (add_outcome (pairs ws) q) (add-ruled ws q
     by TableFull h = refl
     by BadPair h = refl
     by NothingToRemove h = absurd h
-
-abbrev pub remove_numbers : List ℕ
-remove_numbers = 5 ∷ 29 ∷ []
 
 pub remove_answers : (ws : List ℕ) (protocol spi : ℕ) → Memᴰ (outcome_number (remove_outcome (pairs ws) protocol spi)) remove_numbers
 remove_answers ws protocol spi = among_list _ _ (by (remove_outcome (pairs ws) protocol spi) (remove-ruled ws protocol spi).holds)
@@ -126,9 +113,6 @@ remove_answers ws protocol spi = among_list _ _ (by (remove_outcome (pairs ws) p
     by NothingToRemove h = refl
 
 -- Accepting a policy file.
-abbrev pub accept_numbers : List ℕ
-accept_numbers = 5 ∷ 20 ∷ 21 ∷ 22 ∷ 23 ∷ 24 ∷ []
-
 pub accept_answers : (limit : ℕ) (s : List ℕ) → Memᴰ (acceptance_number (accepted_file limit s)) accept_numbers
 accept_answers limit s = among_list _ _ (by (accepted_file limit s))
   where
@@ -141,9 +125,6 @@ accept_answers limit s = among_list _ _ (by (accepted_file limit s))
     by (OverForm w) = refl
 
 -- Normalising.
-abbrev pub normalise_numbers : List ℕ
-normalise_numbers = 5 ∷ 20 ∷ 21 ∷ 22 ∷ 23 ∷ 24 ∷ 31 ∷ []
-
 pub normalise_answers : (limit : ℕ) (d : Direction) (room : ℕ) (s : List ℕ)
     → Memᴰ (normalised_number (normalised_file limit d room s)) normalise_numbers
 normalise_answers limit d room s = among_list _ _ (by (normalised_file limit d room s))

@@ -1,10 +1,9 @@
 -- Demand 1: 'A refused policy, association or print alters no table, cache or buffer; a packet's answer alters only the cache, by its rule.'
 -- Assumes nothing.
-use Rattle.std.specs.Prelude.{ℕ, zero, suc, ◌≤◌, ◌≡◌, refl, Bool, false, cond, length}
+use Rattle.std.specs.Prelude.{ℕ, zero, suc, ◌≤◌, ◌≡◌, refl, Bool, false, cond}
 use Rattle.std.proofs.Common.{arith, sym, ap, ◌∙◌}
 use Rattle.std.proofs.Math.Bool.{true, false≢true}
-use mathlib.Core.List.{List, [], ◌∷◌, Memᴰ}
-use Rattle.selectors.specs.declared.Direction.{Direction}
+use mathlib.Core.List.{List, Memᴰ}
 use Rattle.selectors.specs.declared.Direction.TheVariants.{Out, In}
 use Rattle.policy.specs.declared.Action.{Action}
 use Rattle.policy.specs.declared.Action.TheVariants.{Discard, Bypass, Protect}
@@ -26,36 +25,15 @@ use Rattle.sad.specs.declared.Outcome.TheVariants.{Done, NothingToRemove}
 use Rattle.verdicts.specs.Calls.{shows, for_gateway, to_ipsec, inbound_action, inbound_read, inbound_by}
 use Rattle.gateway.specs.Cached.{cached_search, outbound_cached, inbound_cache, inbound_cached}
 use Rattle.verdicts.specs.Verdict.{verdict_number}
-use Rattle.policy_text.specs.Editions.{Policy, refused, rows}
-use Rattle.normal_form_file.specs.Normalise.{normalised, bytes_after, normalised_bytes, normalised_number}
-use Rattle.normal_form_file.specs.declared.Normalised.{Normalised}
-use Rattle.normal_form_file.specs.declared.Normalised.TheVariants.{Printed, Refused, TooLarge, NoRoom}
-use Rattle.acceptance.specs.Spd.{spd_words, empty_caches, accepting, if_accepted, spd_after, caches_after, acceptance_number}
-use Rattle.spd.specs.Words.{address_of}
-use Rattle.acceptance.specs.declared.Acceptance.{Acceptance}
-use Rattle.acceptance.specs.declared.Acceptance.TheVariants.{Accepted, Refused as RefusedFile, TooLarge as OverForm}
-use Rattle.acceptance.specs.declared.Caches.{Caches}
 use Rattle.answer_rules.proofs.AmongLaws.{among, list-among}
 use Rattle.answer_rules.proofs.DecidesLaws.{is_false}
 use Rattle.answer_rules.specs.Terms.{ForGateway}
+use Rattle.answer_rules.specs.AnswerNumbers.{unsearched}
 use Rattle.answer_rules.proofs.TermsLaws.{unreadable, gateway_decides}
 use Rattle.answer_rules.proofs.Demand1.{out-10}
 
--- 'Answers 10 and up for a policy, pair or print change nothing lent.' A policy that is not accepted leaves the policy and both caches.
-pub policy_unchanged : (capacity limit : ℕ) (ws : List ℕ) (c : Caches) (policy : Policy)
-    → 10 ≤ acceptance_number (accepting limit policy) → (spd_after capacity limit ws policy ≡ ws) × (caches_after limit c policy ≡ c)
-policy_unchanged capacity limit ws c policy h = (words policy h, by empty_caches c (accepting limit policy) h)
-  where
-    by : {A : Type 0} (new old : A) (a : Acceptance) → 10 ≤ acceptance_number a → if_accepted a new old ≡ old
-    by new old Accepted g = absurd (omega arith)
-    by new old (RefusedFile r) g = refl
-    by new old (OverForm w) g = refl
-
-    words : (p : Policy) → 10 ≤ acceptance_number (accepting limit p) → spd_after capacity limit ws p ≡ ws
-    words (refused p) g = refl
-    words (rows rs) g = by (spd_words capacity (address_of ws) rs) ws (accepting limit (rows rs)) g
-
--- Nor do a pair that is not added, one that is not removed, and what is not printed.
+-- 'Answers 10 and up for a policy, pair or print change nothing lent': a pair that is not added, and one that is not removed. (A policy that is not
+-- accepted, and what is not printed: Demand1Refused.)
 pub add_unchanged : (ws : List ℕ) (q : NewPair) → 10 ≤ outcome_number (add_outcome (pairs ws) q) → added ws q ≡ ws
 add_unchanged ws q h = refused_kept ws q (λ e. omega (arith, ap outcome_number e))
 
@@ -82,17 +60,6 @@ remove_unchanged ws protocol spi h = by (live protocol spi (pairs ws)) refl h
         → cleared_at ws (place_of ws protocol spi) ≡ ws
     by true e g = absurd (omega arith)
     by false e g = not_cleared ws protocol spi 0 64 e
-
-pub normalise_unchanged : (limit : ℕ) (d : Direction) (room : List ℕ) (policy : Policy)
-    → 10 ≤ normalised_number (normalised limit d (length room) policy) → normalised_bytes limit d room policy ≡ room
-normalise_unchanged limit d room (refused p) h = refl
-normalise_unchanged limit d room (rows rs) h = by (normalised limit d (length room) (rows rs)) h
-  where
-    by : (a : Normalised) → 10 ≤ normalised_number a → bytes_after d rs a room ≡ room
-    by (Printed n) g = absurd (omega arith)
-    by (Refused r) g = refl
-    by (TooLarge w) g = refl
-    by NoRoom g = refl
 
 -- The cache after a packet going out. 'Packets are only read; their answers, 10 to 18 included, change nothing but the cache, by the slot
 -- rule.' One that is not readable is not searched.
@@ -122,9 +89,6 @@ module _ (c : Cache) (ws : List ℕ) (pairs : List Pair) (p : List ℕ) where
 
 -- The cache after a packet coming in from outside. One that is not readable (10), or is AH or ESP for the gateway (4, 13, 15, 16), is not
 -- searched.
-abbrev pub unsearched : List ℕ
-unsearched = 4 ∷ 10 ∷ 13 ∷ 15 ∷ 16 ∷ []
-
 module _ (c : Cache) (ws : List ℕ) (address : ℕ) (pairs : List Pair) (p : List ℕ) where
   pub in-unsearched : Memᴰ (verdict_number (inbound_cached c ws address pairs p).verdict) unsearched
       → (inbound_cached c ws address pairs p).cache ≡ c

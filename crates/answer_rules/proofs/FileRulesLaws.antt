@@ -24,7 +24,8 @@ use Rattle.acceptance.specs.Spd.{accepting}
 use Rattle.acceptance.specs.declared.Acceptance.{Acceptance}
 use Rattle.acceptance.specs.declared.Acceptance.TheVariants.{Accepted, Refused as RefusedFile, TooLarge as RefusedForm}
 use Rattle.answer_rules.proofs.DecidesLaws.{Decides, holding, failing, is_true, is_false, decides_le, decides_eq}
-use Rattle.answer_rules.specs.Terms.{Headed, HasHeader, EndsInLf, FirstBadRow, RowsAre, normalised_file, accepted_file}
+use Rattle.answer_rules.specs.Terms.{Headed, HasHeader, EndsInLf, FirstBadRow, normalised_file, accepted_file}
+use Rattle.answer_rules.specs.FileRules.{RefusalRule, FileRule, NormaliseRule, AcceptRule}
 use Rattle.answer_rules.proofs.ExactlyLaws.{Ruled, normalised_exactly}
 
 none≢some : {e : Edition} → ◌≡◌ {A = Option Edition} none (some e) → ⊥
@@ -110,19 +111,6 @@ module _ (e : Edition) (s : List ℕ) where
       good : (j : ℕ) → j < i - 1 → (r : PolicyRow) × (row_of (format_of e) (get_or (row_lines e s) j []) ≡ some r)
       good j h = let k : suc j - 1 ≡ j = omega arith in rw k at (b.good-before (suc j) (omega arith) (omega arith))
 
--- The refusals of a file, the same for every call: 'in the order 23, 24, 21, 20 (first bad row)'.
-abbrev pub RefusalRule : ℕ → List ℕ → Refusal → Type 0
-RefusalRule limit s NotHeader = ¬ (HasHeader s)
-RefusalRule limit s NotEnded = HasHeader s × (¬ (EndsInLf s))
-RefusalRule limit s TooMany = (e : Edition) × Headed e s × EndsInLf s × (limit < row_count e s)
-RefusalRule limit s (BadRow i) = (e : Edition) × Headed e s × EndsInLf s × (row_count e s ≤ limit) × FirstBadRow e s i
-
--- A policy file.
-abbrev pub FileRule : ℕ → List ℕ → Policy → Type 0
-FileRule limit s (rows rs) =
-    Headed rs.edition s × EndsInLf s × (row_count rs.edition s ≤ limit) × RowsAre rs.edition s rs.entries
-FileRule limit s (refused r) = RefusalRule limit s r
-
 module _ (limit : ℕ) (s : List ℕ) where
   end_decides : Decides (EndsInLf s) (eqb (get_or s (length s - 1) 0) lf)
   end_decides = decides_eq (get_or s (length s - 1) 0) lf
@@ -182,17 +170,6 @@ module _ (limit : ℕ) (s : List ℕ) where
   pub file-ruled : Ruled (FileRule limit s) (parse_policy limit s)
   file-ruled = record { holds = file-holds; only = file_only }
 
--- Normalising a policy file for one direction.
-abbrev pub NormaliseRule : ℕ → Direction → ℕ → List ℕ → Normalised → Type 0
-NormaliseRule limit d room s (Printed n) =
-    (rs : Rules) × (parse_policy limit s ≡ rows rs) × (length (form d rs) ≤ limit) × (length (form_file d rs) ≤ room)
-    × (length (form_file d rs) ≡ n)
-NormaliseRule limit d room s (Refused r) = RefusalRule limit s r
-NormaliseRule limit d room s (TooLarge w) =
-    (w ≡ d) × (rs : Rules) × (parse_policy limit s ≡ rows rs) × (limit < length (form d rs))
-NormaliseRule limit d room s Short =
-    (rs : Rules) × (parse_policy limit s ≡ rows rs) × (length (form d rs) ≤ limit) × (room < length (form_file d rs))
-
 module _ (limit : ℕ) (d : Direction) (room : ℕ) (s : List ℕ) where
   form-holds : (rs : Rules) → parse_policy limit s ≡ rows rs → NormaliseRule limit d room s (normalised limit d room (rows rs))
   form-holds rs p = by (decides_le (length (form d rs)) limit) (decides_le (length (form_file d rs)) room)
@@ -234,15 +211,6 @@ module _ (limit : ℕ) (d : Direction) (room : ℕ) (s : List ℕ) where
     λ h. let e = over_is h.1 h.2 h.3 in
         (ap normalised_number e, ap normalised_carries e ∙ sym h.0),
   )
-
--- Accepting a policy file: 'way, out tried first'.
-abbrev pub AcceptRule : ℕ → List ℕ → Acceptance → Type 0
-AcceptRule limit s Accepted =
-    (rs : Rules) × (parse_policy limit s ≡ rows rs) × (length (form Out rs) ≤ limit) × (length (form In rs) ≤ limit)
-AcceptRule limit s (RefusedFile r) = RefusalRule limit s r
-AcceptRule limit s (RefusedForm Out) = (rs : Rules) × (parse_policy limit s ≡ rows rs) × (limit < length (form Out rs))
-AcceptRule limit s (RefusedForm In) =
-    (rs : Rules) × (parse_policy limit s ≡ rows rs) × (length (form Out rs) ≤ limit) × (limit < length (form In rs))
 
 module _ (limit : ℕ) (s : List ℕ) where
   forms_hold : (rs : Rules) → parse_policy limit s ≡ rows rs → AcceptRule limit s (accepting limit (rows rs))

@@ -7,5 +7,7 @@ pub mod PacketRulesLaws
 pub mod PairRulesLaws
 pub mod FileRulesLaws
 pub mod Demand1
+pub mod Demand1ClearIn
 pub mod Demand1Complete
 pub mod Demand1Unchanged
+pub mod Demand1Refused

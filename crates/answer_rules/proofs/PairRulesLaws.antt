@@ -13,6 +13,7 @@ use Rattle.sad.specs.declared.Outcome.{Outcome}
 use Rattle.sad.specs.declared.Outcome.TheVariants.{Done, ReservedSpi, AlreadyLive, TableFull, BadPair as Malformed, NothingToRemove}
 use Rattle.answer_rules.proofs.DecidesLaws.{Decides, holding, failing, is_true, is_false, decides_iff, decides_equal, decides_not, decides_and, decides_or, decides_le, decides_lt, decides_eq}
 use Rattle.answer_rules.specs.Terms.{LowSpi, NotIpsec, BadRange, SomeBadRange, BadPair}
+use Rattle.answer_rules.specs.PairRules.{AddRule, RemoveRule}
 use Rattle.answer_rules.proofs.ExactlyLaws.{Ruled}
 
 spi_decides : (q : NewPair) → Decides (LowSpi q) (reserved_spi q)
@@ -92,17 +93,6 @@ full_decides ws =
     let m : length (pairs ws) ≤ 64 = pairs_at_most ws 0 64 in
     decides_iff (λ h. omega arith) (λ e. omega arith) (decides_le 64 (length (pairs ws)))
 
--- 'An added pair: 25, 28, 26, 27': each only where none before it.
-abbrev pub AddRule : List ℕ → NewPair → Outcome → Type 0
-AddRule ws q ReservedSpi = LowSpi q
-AddRule ws q Malformed = (¬ (LowSpi q)) × BadPair q
-AddRule ws q AlreadyLive = (¬ (LowSpi q)) × (¬ (BadPair q)) × (live q.protocol q.spi_in (pairs ws) ≡ true)
-AddRule ws q TableFull =
-    (¬ (LowSpi q)) × (¬ (BadPair q)) × (live q.protocol q.spi_in (pairs ws) ≡ false) × (length (pairs ws) ≡ 64)
-AddRule ws q Done =
-    (¬ (LowSpi q)) × (¬ (BadPair q)) × (live q.protocol q.spi_in (pairs ws) ≡ false) × (¬ (length (pairs ws) ≡ 64))
-AddRule ws q NothingToRemove = ⊥
-
 module _ (ws : List ℕ) (q : NewPair) where
   add_holds : AddRule ws q (add_outcome (pairs ws) q)
   unfolding add_outcome
@@ -128,15 +118,6 @@ module _ (ws : List ℕ) (q : NewPair) where
 
   pub add-ruled : Ruled (AddRule ws q) (add_outcome (pairs ws) q)
   add-ruled = record { holds = add_holds; only = add_only }
-
--- 'A removal, whatever it names: 29 only.'
-abbrev pub RemoveRule : List ℕ → ℕ → ℕ → Outcome → Type 0
-RemoveRule ws protocol spi Done = live protocol spi (pairs ws) ≡ true
-RemoveRule ws protocol spi ReservedSpi = ⊥
-RemoveRule ws protocol spi AlreadyLive = ⊥
-RemoveRule ws protocol spi TableFull = ⊥
-RemoveRule ws protocol spi Malformed = ⊥
-RemoveRule ws protocol spi NothingToRemove = live protocol spi (pairs ws) ≡ false
 
 module _ (ws : List ℕ) (protocol spi : ℕ) where
   remove-holds : RemoveRule ws protocol spi (remove_outcome (pairs ws) protocol spi)

@@ -1,1 +1,4 @@
 pub mod Terms
+pub mod PairRules
+pub mod FileRules
+pub mod AnswerNumbers

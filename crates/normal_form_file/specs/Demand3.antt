@@ -18,7 +18,8 @@ use Rattle.policy_text.specs.declared.Edition.{Edition}
 use Rattle.policy_text.specs.Editions.{format_of, edition_sizes, Rules, rules, rows, parse_policy}
 use Rattle.policy_text.specs.Print.{policy_text}
 use Rattle.policy_round_trip.proofs.EditionsLaws.{lawful}
-use Rattle.policy_round_trip.proofs.FilesLaws.{AllPrintable, parse-printed, printing_injective}
+use Rattle.policy_round_trip.proofs.FilesLaws.{AllPrintable, parse-printed}
+use Rattle.policy_round_trip.proofs.InjectiveLaws.{printing_injective}
 use Rattle.policy_round_trip.proofs.AcceptedLaws.{parse_printable}
 use Rattle.policy_round_trip.proofs.NormalFormsLaws.{normal_form_printable}
 use Rattle.decorrelate.specs.Form.{form}

@@ -19,6 +19,7 @@ use Rattle.policy_text.proofs.PrintLaws.{decimal-length}
 use Rattle.policy_round_trip.proofs.CutsLaws.{has_none}
 use Rattle.policy_round_trip.proofs.DecimalsLaws.{decimal_back, decimal-without, decimal_no_word, address_back, address-without, address-length}
 use Rattle.policy_round_trip.proofs.RangesLaws.{Outside, Values, span_text, span-without, span_not_any, range_back, ends_back, range_clean, Reads, either, In, made_in, ends-in, full_in}
+use Rattle.policy_round_trip.specs.Proper.{Proper}
 use Rattle.policy_round_trip.specs.Lawful.{Clean, HeaderLine, Spelled, Writable, Lawful}
 
 -- The values of each field, with how many bytes the longest has.
@@ -119,12 +120,6 @@ protocol_spelled = record { range_back = protocol_range_back; range_read = λ s 
 
 port_spelled : Spelled ports
 port_spelled = record { range_back = port_range_back; range_read = λ s r e. of_field port_size r (port_in s) e; range_clean = range_clean port_values }
-
--- 'N from 1 to 255'.
-abbrev pub Proper : Action → Type 0
-Proper Discard = Unit
-Proper Bypass = Unit
-Proper (Protect n) = (1 ≤ n) × (n ≤ 255)
 
 protect_in : (n : Number) → AtMost 255 n → Reads Proper (protect n)
 protect_in Bad h = tt

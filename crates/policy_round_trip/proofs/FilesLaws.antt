@@ -1,6 +1,6 @@
 -- Files of any edition, printed and read. Assumes nothing.
 use Rattle.std.specs.Prelude.{ℕ, ◌+◌, ◌-◌, ◌≤◌, ◌≡◌, get_or}
-use Rattle.std.proofs.Common.{arith, sym, ap, ◌∙◌, le-leb}
+use Rattle.std.proofs.Common.{arith, ap, ◌∙◌, le-leb}
 use Rattle.std.proofs.Math.Path.{refl}
 use mathlib.Core.List.{List, [], ◌∷◌, ◌++◌, append_assoc, Memᴰ}
 use Rattle.std.proofs.Math.ListN.{length, length-append}
@@ -81,12 +81,3 @@ parse-printed limit e rs a h =
       le-leb (length rs) limit h,
     )
     (ap (policy_of e) (lines_back f (lawful e) 1 rs a))
-
--- Rows of one edition that are printed alike are the same rows.
-pub printing_injective : (e : Edition) (rs qs : List PolicyRow) → AllPrintable (format_of e) rs → AllPrintable (format_of e) qs
-    → policy_text (format_of e) rs ≡ policy_text (format_of e) qs → rs ≡ qs
-printing_injective e rs qs a b same =
-    let n = length rs + length qs in
-    let both : rows (rules e rs) ≡ rows (rules e qs) = sym (parse-printed n e rs a (omega arith)) ∙ ap (parse_policy n) same ∙ parse-printed n e qs b (omega arith) in
-    let one : rules e rs ≡ rules e qs = cc in
-    λ i. (one i).entries

@@ -18,7 +18,8 @@ use Rattle.policy_text.specs.Editions.{format_of}
 use Rattle.policy_text.proofs.PrintLaws.{decimal-length, ranges-length}
 use Rattle.policy_round_trip.proofs.RangesLaws.{in_field-made, range_short}
 use Rattle.policy_round_trip.specs.Lawful.{Printable}
-use Rattle.policy_round_trip.proofs.Edition1Laws.{Proper, proper, address_values, protocol_values, port_values}
+use Rattle.policy_round_trip.specs.Proper.{Proper}
+use Rattle.policy_round_trip.proofs.Edition1Laws.{proper, address_values, protocol_values, port_values}
 use Rattle.policy_round_trip.proofs.FilesLaws.{AllPrintable, first_printable, rest_printable, rows-cons}
 
 -- Rows whose texts, with their LF, have at most so many bytes.

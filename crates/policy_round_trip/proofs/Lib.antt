@@ -5,6 +5,7 @@ pub mod RowsLaws
 pub mod Edition1Laws
 pub mod EditionsLaws
 pub mod FilesLaws
+pub mod InjectiveLaws
 pub mod AcceptedLaws
 pub mod LengthLaws
 pub mod NormalFormsLaws

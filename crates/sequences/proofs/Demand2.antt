@@ -20,7 +20,8 @@ use Rattle.sad.specs.Pairs.{pairs, live, fitting, pair_for}
 use Rattle.verdicts.specs.Calls.{shows, from_sa_by}
 use Rattle.verdicts.specs.Verdict.{verdict_number, carried}
 use Rattle.answer_rules.specs.Terms.{ForGateway, IcmpError, returned}
-use Rattle.answer_rules.proofs.Demand1.{out-0, in-0, sa-1, out-2, out-3}
+use Rattle.answer_rules.proofs.Demand1.{out-0, sa-1, out-2, out-3}
+use Rattle.answer_rules.proofs.Demand1ClearIn.{in-0}
 use Rattle.sequences.specs.Sequence.{Gateway, Call, goes_out, comes_in}
 use Rattle.sequences.specs.Current.{current, live_pairs}
 use Rattle.sequences.proofs.InvariantLaws.{cache_of}
