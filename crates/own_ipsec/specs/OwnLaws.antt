@@ -17,8 +17,8 @@ own_number address k x e = grind (arith, nat_tests)
 
 -- What an answer says, and what none does.
 module _ (address : ℕ) (ps : List Pair) (p : List ℕ) (k : Packet) where
-  pub own-answered : (v : Verdict) → own_answer address ps p k ≡ Some v → (for_gateway address k ≡ true) × (to_ipsec ps p k ≡ v)
-  own-answered v e = grind arith
+  pub own_answered : (v : Verdict) → own_answer address ps p k ≡ Some v → (for_gateway address k ≡ true) × (to_ipsec ps p k ≡ v)
+  own_answered v e = grind arith
 
   pub not_own : own_answer address ps p k ≡ None → for_gateway address k ≡ false
   not_own e = grind arith
