@@ -11,7 +11,7 @@ ghost use Rattle.policy.specs.Words.{row_words, policy_rows};
 ghost use Rattle.spd_cache.specs.declared.Cache.{Cache};
 ghost use Rattle.spd_cache.specs.Cache.{slot_count, slots_words, empty_cache, used_words, in_use, action_at, put, stored, missed, looked_up};
 
-use policy::{Action, Found, ROW_WORDS};
+use policy::{Action, ROW_WORDS};
 use selectors::{Direction, Selectors};
 
 pub const SLOTS: usize = 32;
@@ -79,7 +79,7 @@ fn action_at(rows: &[u64], row: usize) -> Action
     requires { row * row_words + row_words ≤ length rows.now }
     ensures { result ≡ action_at rows.now row }
 {
-    policy::action_of(rows[row * ROW_WORDS + 1])
+    Action::from(rows[row * ROW_WORDS + 1])
 }
 
 // Writes the row at place `row` of `rows` into a slot.
@@ -112,8 +112,7 @@ fn miss<S: Slots>(cache: &mut S, rows: &[u64], direction: Direction, selectors: 
     ensures value { result ≡ (missed (S.held cache.old) rows.now (match_from 0 direction (policy_rows rows.now) (combination selectors))).action }
     ensures cache_after { S.held cache.new ≡ (missed (S.held cache.old) rows.now (match_from 0 direction (policy_rows rows.now) (combination selectors))).cache }
 {
-    let found = policy::first_match(rows, direction, selectors);
-    let Found::Row(row) = found else {
+    let Some(row) = policy::first_match(rows, direction, selectors) else {
         return Action::Discard;
     };
     cache.store(rows, row);
@@ -131,10 +130,9 @@ fn look_up<S: Slots>(
     ensures cache_after { S.held cache.new ≡ (looked_up (S.held cache.old) rows.now direction (combination selectors)).cache }
 {
     let slots = cache.in_use();
-    let slot = policy::first_match(slots, direction, selectors);
-    match slot {
-        Found::Row(hit) => action_at(slots, hit),
-        Found::Nothing => miss(cache, rows, direction, selectors),
+    match policy::first_match(slots, direction, selectors) {
+        Some(hit) => action_at(slots, hit),
+        None => miss(cache, rows, direction, selectors),
     }
 }
 

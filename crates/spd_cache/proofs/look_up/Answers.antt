@@ -8,16 +8,16 @@ use Rattle.spd_cache.proofs.CacheLaws.{row_bound}
 use Rattle.spd_cache.proofs.look_up.Goals as goal
 
 pub action_at-requires : goal.action_at-requires
-action_at-requires g c = row_bound c.in_use-slots.result.now c.args.direction (combination c.args.selectors) _ (sym c.first_match-slot.ensures ∙ c.in-Row.is)
+action_at-requires g c = row_bound c.in_use-slots.result.now c.args.direction (combination c.args.selectors) _ (sym c.first_match.ensures ∙ c.in-Some.is)
 
-pub returns-in-Row : goal.returns-in-Row
+pub returns-in-Some : goal.returns-in-Some
 unfolding looked_up
-returns-in-Row g c =
-    let hit = ap (λ ws. match_from 0 c.args.direction (policy_rows ws) (combination c.args.selectors)) (sym c.in_use-slots.ensures) ∙ sym c.first_match-slot.ensures ∙ c.in-Row.is in
+returns-in-Some g c =
+    let hit = ap (λ ws. match_from 0 c.args.direction (policy_rows ws) (combination c.args.selectors)) (sym c.in_use-slots.ensures) ∙ sym c.first_match.ensures ∙ c.in-Some.is in
     rw (hit, ← c.in_use-slots.ensures) (record { value = c.action_at.ensures; cache_after = refl })
 
-pub returns-in-Nothing : goal.returns-in-Nothing
+pub returns-in-None : goal.returns-in-None
 unfolding looked_up
-returns-in-Nothing g c =
-    let missed = ap (λ ws. match_from 0 c.args.direction (policy_rows ws) (combination c.args.selectors)) (sym c.in_use-slots.ensures) ∙ sym c.first_match-slot.ensures ∙ c.in-Nothing.is in
+returns-in-None g c =
+    let missed = ap (λ ws. match_from 0 c.args.direction (policy_rows ws) (combination c.args.selectors)) (sym c.in_use-slots.ensures) ∙ sym c.first_match.ensures ∙ c.in-None.is in
     rw missed c.miss.ensures
