@@ -65,25 +65,15 @@ fn own_protocol(address: u64, packet: Packet) -> Option<Protocol>
         upper: 0,
         lower: address,
     };
-    let esp = Value {
-        upper: 0,
-        lower: ESP,
-    };
-    let ah = Value {
-        upper: 0,
-        lower: AH,
-    };
     let selectors = packet.selectors;
-    if !selectors.local.same(own) {
+    if selectors.local != own || selectors.protocol.upper != 0 {
         return None;
     }
-    if selectors.protocol.same(esp) {
-        return Some(Protocol::Esp);
+    match selectors.protocol.lower {
+        ESP => Some(Protocol::Esp),
+        AH => Some(Protocol::Ah),
+        _ => None,
     }
-    if selectors.protocol.same(ah) {
-        return Some(Protocol::Ah);
-    }
-    None
 }
 
 fn is_fragment(packet: Packet) -> bool

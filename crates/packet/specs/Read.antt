@@ -2,7 +2,7 @@
 use Rattle.std.specs.Prelude.{Option, Some, None, ℕ, ◌+◌, ◌-◌, ◌/◌, min, Bool, cond, not, ◌&&◌, ◌||◌, List, leb, eqb, length, take, drop}
 use Rattle.selectors.specs.Range.{absent}
 use Rattle.selectors.specs.declared.Value.{Value}
-use Rattle.selectors.specs.declared.Selectors.{Selectors}
+use Rattle.selectors.specs.declared.Fields.{Fields}
 use Rattle.selectors.specs.declared.Direction.{Direction}
 use Rattle.selectors.specs.declared.Direction.TheVariants.{Out, In}
 use Rattle.packet.specs.Header.{two, shortest_header, shortest_field, ip_version, version, header_field, header_end, total_length, more_fragments_of, fragment_offset, protocol, source, destination}
@@ -75,7 +75,7 @@ remote_port_of d nothing = absent
 abbrev pub value : ℕ → Value
 value n = record { upper = 0; lower = n }
 
-abbrev pub selectors_in : Direction → List ℕ → Shown → Selectors
+abbrev pub selectors_in : Direction → List ℕ → Shown → Fields Value
 selectors_in d p s =
     record {
       local = value (local d (source p) (destination p));

@@ -10,7 +10,8 @@ use Rattle.selectors.specs.Range.{absent, address_size, protocol_size, port_size
 use Rattle.selectors.proofs.RangeLaws.{both_true}
 use Rattle.selectors.specs.Value.{number}
 use Rattle.selectors.proofs.ValueLaws.{number-lower}
-use Rattle.selectors.specs.declared.Selectors.{Selectors}
+use Rattle.selectors.specs.declared.Value.{Value}
+use Rattle.selectors.specs.declared.Fields.{Fields}
 use Rattle.selectors.specs.declared.Direction.{Direction}
 use Rattle.selectors.specs.declared.Direction.TheVariants.{Out, In}
 use Rattle.packet.specs.Header.{Bytes, byte, two, four, total_length_at, flags_at, protocol_at, source_at, destination_at, shortest_header, header_end, total_length, fragment_offset, protocol, source, destination}
@@ -248,7 +249,7 @@ shown_below p b end =
     shown_each p end Below (λ e. (two_at (header_end p), two_at (header_end p + destination_port_at))) (λ e. two_at (header_end p)) tt
 
 -- Each value that is read is one of its field: a port is below 65,536 or is absent.
-pub record InFields (s : Selectors) : Type 0 where
+pub record InFields (s : Fields Value) : Type 0 where
   pub local : number s.local < address_size
   pub remote : number s.remote < address_size
   pub protocol : number s.protocol < protocol_size

@@ -9,7 +9,7 @@ ghost use Rattle.packet.specs.StepsLaws.{Inside};
 
 use selectors::{ABSENT, Direction, Selectors, Value};
 
-#[derive(Clone, Copy)]
+#[derive(Clone, Copy, Debug, PartialEq, Eq)]
 pub struct Packet {
     pub selectors: Selectors,
     // The fragment offset, in units of eight bytes.
@@ -267,5 +267,5 @@ pub fn is_icmp_error(selectors: Selectors) -> bool
         lower: u64::from(ICMP),
     };
     let port = selectors.local_port;
-    selectors.protocol.same(icmp) && port.upper == 0 && error_type(port.lower / 256)
+    selectors.protocol == icmp && port.upper == 0 && error_type(port.lower / 256)
 }
