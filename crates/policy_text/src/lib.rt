@@ -1,7 +1,7 @@
 // The format of policy files (document 01; docs/RULES.md, 'The policy file'): texts, cuts at a byte, and decimals; specs/ has the whole format.
 #![tactic(auto)]
 
-ghost use Rattle.std.specs.Prelude.{◌≡◌, ◌≤◌, length};
+ghost use Rattle.std.specs.Prelude.{◌≡◌, ◌≤◌, length, IfSome};
 ghost use Rattle.policy_text.specs.Bytes.{index, before, after, count};
 ghost use Rattle.policy_text.specs.Decimals.{unpadded, decimal};
 ghost use Rattle.policy_text.specs.declared.ParseError.TheVariants.{Refused};
@@ -48,7 +48,8 @@ fn unpadded(s: &[u8]) -> bool
 
 // The number that a text stands for, if it is at most `max`.
 pub fn decimal(s: &[u8], max: u16) -> Option<u64>
-    ensures { result ≡ decimal max s.now }
+    ensures value { result ≡ decimal max s.now }
+    ensures within { IfSome result (λ n. n ≤ max) }
 {
     if !unpadded(s) {
         return None;

@@ -5,18 +5,18 @@ use Rattle.policy_text.specs.Decimals.{value}
 use Rattle.policy_text.proofs.FormatLaws.{digits-next, digits_ended, value-next, value_ended, value_grows, decimal-padded, decimal_other, decimal_above, decimal_is}
 use Rattle.policy_text.proofs.decimal.Goals as goal
 
-pub returns-then-not-unpadded : goal.returns-then-not-unpadded
-returns-then-not-unpadded c = sym (decimal-padded c.args.max c.args.s.now (search rules))
+pub returns-then-not-unpadded-clause-value : goal.returns-then-not-unpadded-clause-value
+returns-then-not-unpadded-clause-value c = sym (decimal-padded c.args.max c.args.s.now (search rules))
 
-pub returns-then-not-is_ascii_digit : goal.returns-then-not-is_ascii_digit
-returns-then-not-is_ascii_digit c =
+pub returns-then-not-is_ascii_digit-clause-value : goal.returns-then-not-is_ascii_digit-clause-value
+returns-then-not-is_ascii_digit-clause-value c =
     let s = c.args.s.now in
     let l = c.loop-c in
     let d : is_ascii_digit (get_or s l.c-index 0) ≡ false = search rules in
     sym (decimal_other c.args.max s (l.invariant.1 ∙ digits-next s l.c-index (search rules) ∙ rw d))
 
-pub returns-then-from-n : goal.returns-then-from-n
-returns-then-from-n c =
+pub returns-then-from-n-clause-value : goal.returns-then-from-n-clause-value
+returns-then-from-n-clause-value c =
     let s = c.args.s.now in
     let l = c.loop-c in
     let v = l.invariant.2 ∙ value-next s l.c-index l.n (search rules) in
@@ -32,8 +32,8 @@ loop-c-preserved c =
       rw c.from.ensures (l.invariant.2 ∙ value-next s l.c-index l.n (search rules)),
     )
 
-pub returns : goal.returns
-returns c =
+pub returns-clause-value : goal.returns-clause-value
+returns-clause-value c =
     let s = c.args.s.now in
     let l = c.loop-c in
     let e : value 0 s ≡ l.n = l.invariant.2 ∙ value_ended s l.c-index l.n (search rules) in
