@@ -1,30 +1,21 @@
 -- Laws of decimals: one step of a walk over their digits. Assumes nothing.
-use Rattle.std.specs.Prelude.{ℕ, zero, suc, ◌+◌, ◌-◌, ◌*◌, ◌/◌, ◌^◌, ◌≤◌, ◌<◌, ◌≡◌, refl, Bool, true, false, cond, not, ◌&&◌, List, [], ◌∷◌, leb, eqb, length, get_or, drop}
+use Rattle.std.specs.Prelude.{ℕ, zero, suc, ◌+◌, ◌-◌, ◌*◌, ◌/◌, ◌^◌, ◌≤◌, ◌<◌, ◌≡◌, refl, Bool, true, false, cond, not, ◌&&◌, List, [], ◌∷◌, leb, eqb, length, get_or, drop, Some, None}
+use Rattle.std.specs.Char.{is_ascii_digit}
 use Rattle.std.proofs.Common.{pow-suc, mul-div_cancel, arith, lit<}
 use Rattle.std.proofs.Math.Nat.{pow-le-pow_right}
 use Rattle.std.proofs.Math.Bool.{and-false}
 use borrow.Author.Tests.{le-leb, lt-leb, leb-true, eq-eqb, ne_eqb}
 use Rattle.selectors.proofs.RangeLaws.{both_true}
-use Rattle.policy_text.specs.declared.Number.{Number}
-use Rattle.policy_text.specs.declared.Number.TheVariants.{Is, Bad}
 use Rattle.policy_text.specs.Bytes.{dot, before, after}
 use Rattle.policy_text.proofs.BytesLaws.{left_more, left_none}
-use Rattle.policy_text.specs.Decimals.{digits, value, unpadded, decimal}
+use Rattle.policy_text.specs.Decimals.{Number, digits, value, unpadded, decimal}
 use Rattle.policy_text.specs.Format.{AtMost}
 use Rattle.policy_text.specs.Edition1.{four_octets, address, mask_below}
 
 module _ (s : List ℕ) (i : ℕ) where
-  pub digits-next : i < length s → 48 ≤ get_or s i 0 → get_or s i 0 ≤ 57 → digits (drop i s) ≡ digits (drop (i + 1) s)
+  pub digits-next : i < length s → digits (drop i s) ≡ (is_ascii_digit (get_or s i 0) && digits (drop (i + 1) s))
   unfolding digits
-  digits-next h l u = rw (left_more s i h, le-leb 48 (get_or s i 0) l, le-leb (get_or s i 0) 57 u)
-
-  pub digits_below : i < length s → get_or s i 0 < 48 → digits (drop i s) ≡ false
-  unfolding digits
-  digits_below h l = rw (left_more s i h, lt-leb 48 (get_or s i 0) l)
-
-  pub digits_above : i < length s → 57 < get_or s i 0 → digits (drop i s) ≡ false
-  unfolding digits
-  digits_above h u = rw (left_more s i h, lt-leb (get_or s i 0) 57 u, and-false)
+  digits-next h = rw (left_more s i h)
 
   pub digits_ended : length s ≤ i → digits (drop i s) ≡ true
   unfolding digits
@@ -46,19 +37,19 @@ value_grows n (c ∷ s) = omega (arith, value_grows (n * 10 + (c - 48)) s)
 
 -- A text is no decimal up to max if it is padded or empty, if some byte is no digit, or if it is above max; else it is its value.
 module _ (max : ℕ) (s : List ℕ) where
-  pub decimal-padded : unpadded s ≡ false → decimal max s ≡ Bad
+  pub decimal-padded : unpadded s ≡ false → decimal max s ≡ None
   unfolding decimal
   decimal-padded e = rw e
 
-  pub decimal_other : digits s ≡ false → decimal max s ≡ Bad
+  pub decimal_other : digits s ≡ false → decimal max s ≡ None
   unfolding decimal
   decimal_other e = rw (e, and-false)
 
-  pub decimal_above : max < value 0 s → decimal max s ≡ Bad
+  pub decimal_above : max < value 0 s → decimal max s ≡ None
   unfolding decimal
   decimal_above h = rw (lt-leb (value 0 s) max h, and-false)
 
-  pub decimal_is : unpadded s ≡ true → digits s ≡ true → value 0 s ≤ max → decimal max s ≡ Is (value 0 s)
+  pub decimal_is : unpadded s ≡ true → digits s ≡ true → value 0 s ≤ max → decimal max s ≡ Some (value 0 s)
   unfolding decimal
   decimal_is u d h = rw (u, d, le-leb (value 0 s) max h)
 
@@ -108,7 +99,7 @@ pub mask_none : (m z : ℕ) → z ≤ 0 → mask_below z m ≡ false
 unfolding mask_below
 mask_none m z h = let e : z ≡ zero = omega arith in rw e
 
-at_most_if : (max : ℕ) (t : Bool) (n : ℕ) → (t ≡ true → n ≤ max) → AtMost max (cond t (Is n) Bad)
+at_most_if : (max : ℕ) (t : Bool) (n : ℕ) → (t ≡ true → n ≤ max) → AtMost max (cond t (Some n) None)
 at_most_if max true n f = f refl
 at_most_if max false n f = tt
 
@@ -118,15 +109,15 @@ decimal_at_most max s =
     at_most_if max (unpadded s && digits s && leb (value 0 s) max) (value 0 s)
     (λ e. leb-true (value 0 s) max (both_true (unpadded s && digits s) (leb (value 0 s) max) e).1)
 
-pub decimal_bound : (max n : ℕ) (s : List ℕ) → decimal max s ≡ Is n → n ≤ max
+pub decimal_bound : (max n : ℕ) (s : List ℕ) → decimal max s ≡ Some n → n ≤ max
 decimal_bound max n s e = rw e at (decimal_at_most max s)
 
 four_at_most : (a b c d : Number) → AtMost 255 a → AtMost 255 b → AtMost 255 c → AtMost 255 d → AtMost 4294967295 (four_octets a b c d)
-four_at_most Bad b c d p q r s = tt
-four_at_most (Is k) Bad c d p q r s = tt
-four_at_most (Is k) (Is l) Bad d p q r s = tt
-four_at_most (Is k) (Is l) (Is m) Bad p q r s = tt
-four_at_most (Is k) (Is l) (Is m) (Is n) p q r s = omega arith
+four_at_most None b c d p q r s = tt
+four_at_most (Some k) None c d p q r s = tt
+four_at_most (Some k) (Some l) None d p q r s = tt
+four_at_most (Some k) (Some l) (Some m) None p q r s = tt
+four_at_most (Some k) (Some l) (Some m) (Some n) p q r s = omega arith
 
 pub address_at_most : (s : List ℕ) → AtMost 4294967295 (address s)
 unfolding address
