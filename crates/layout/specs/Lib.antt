@@ -1,3 +1,4 @@
+pub mod AgreeStub
 pub mod Parting
 pub mod PartingLaws
 pub mod Decode
