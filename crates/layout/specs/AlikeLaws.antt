@@ -20,8 +20,7 @@ use Rattle.policy.specs.Words.{action_word, direction_of, row_at, rows_from, pol
 use Rattle.policy.proofs.WordsLaws.{action-word}
 use Rattle.cover.specs.Boxes.{ranges_word, ranges_behind, InBox}
 use Rattle.cover.specs.RangesLaws.{ranges-length, ranges_split}
-use Rattle.agree.specs.Sides.{action_in, row_behind, range_of, Alike}
-use Rattle.layout.specs.AgreeStub.{Cutting}
+use Rattle.agree.specs.Sides.{action_in, row_behind, range_of, Alike, Cutting}
 use Rattle.layout.specs.Parting.{parting-≟, agreed, parting_at}
 use Rattle.layout.specs.Decode.{sizes_from, row_ranges, active}
 use Rattle.layout.specs.DecodeLaws.{active-matches}
@@ -100,7 +99,7 @@ cuts_at d ws f before e h list t cuts c = record {
 
 -- A list that is narrowed to a value has the rows that are active behind it.
 narrowed_list : (d : Direction) (ws : List ℕ) (f : ℕ) (before : List ℕ) → length before ≡ f → (v : ℕ) (list : List ℕ) → Lists d ws f before list
-    → those (λ i. contains (range_of ws i f) v) list ≡ filter (λ j. active d ws j (f + 1) (before ++ v ∷ [])) (up_from 0 (listed ws))
+    → filter (λ i. contains (range_of ws i f) v) list ≡ filter (λ j. active d ws j (f + 1) (before ++ v ∷ [])) (up_from 0 (listed ws))
 narrowed_list d ws f before e v list t = ap (filter _) t ∙ sym (filter_both _ _ _ (active-next d ws f before e v) _)
 
 longer : (before : List ℕ) (v f : ℕ) → length before ≡ f → length (before ++ v ∷ []) ≡ f + 1

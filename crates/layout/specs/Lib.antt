@@ -1,4 +1,3 @@
-pub mod AgreeStub
 pub mod Parting
 pub mod PartingLaws
 pub mod Decode

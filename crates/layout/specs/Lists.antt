@@ -4,8 +4,7 @@ use Rattle.selectors.specs.Range.{contains}
 use Rattle.selectors.specs.Words.{field_count, value_words, values_from}
 use Rattle.selectors.specs.declared.Direction.{Direction}
 use Rattle.policy.specs.Words.{row_words, row_limit}
-use Rattle.agree.specs.Sides.{range_of}
-use Rattle.layout.specs.AgreeStub.{There}
+use Rattle.agree.specs.Sides.{range_of, There}
 use Rattle.layout.specs.Decode.{active}
 use Rattle.layout.specs.Steps.{AlikeTo, SearchAlike}
 

@@ -1,10 +1,12 @@
 -- Laws of lists of rows. Assumes nothing.
 use Prim.Native.Nat.{ℕ, zero, suc, ◌+◌, ◌-◌, ◌*◌, ◌/◌, ◌≤◌, ◌<◌}
 use native.Mathlib.Omega.{arith}
+use Rattle.std.proofs.lemmas.List.Sums.{length-filter, count_by-le-length}
 use Rattle.std.proofs.Math.Nat.{min-le_left, min-le_right, min-eq_left}
-use Rattle.std.proofs.Common.{add-one, ◌∙◌, drop-cons}
+use Rattle.std.proofs.Common.{add-one, ◌∙◌, ⊎_elim, append-nil, drop-cons}
+use Rattle.std.proofs.lemmas.List.Elements.{filter-append}
 use Rattle.std.proofs.Math.Path.{◌≡◌, refl, sym, ap}
-use Rattle.std.specs.Prelude.{Bool, ◌&&◌, drop, filter}
+use Rattle.std.specs.Prelude.{Bool, ◌&&◌, drop, filter, ◌⊎◌}
 use Rattle.std.proofs.Math.Bool.{true, false, cond, and-true, and_assoc}
 use mathlib.Core.List.{List, [], ◌∷◌, ◌++◌}
 use Rattle.std.proofs.Math.ListN.{length, get_or}
@@ -20,8 +22,7 @@ use Rattle.policy.proofs.WordsLaws.{action-word}
 use Rattle.policy.specs.declared.Action.TheVariants.{Discard}
 use Rattle.cover.specs.Boxes.{ranges_word}
 use Rattle.cover.specs.RangesLaws.{ranges-length, ranges_split, written}
-use Rattle.agree.specs.Sides.{action_in, range_of}
-use Rattle.layout.specs.AgreeStub.{There}
+use Rattle.agree.specs.Sides.{action_in, range_of, There}
 use Rattle.layout.specs.Decode.{row_ranges, active}
 use Rattle.layout.specs.DecodeLaws.{active-matches}
 use Rattle.layout.specs.Steps.{AlikeTo, IntervalEnd}
@@ -36,6 +37,13 @@ up_from_more i (suc n) = let e : suc i + n ≡ i + suc n = omega arith in ap (i 
 
 pub rows_more : (n : ℕ) → up_from 0 (n + 1) ≡ up_from 0 n ++ n ∷ []
 rows_more n = let e : 0 + n ≡ n = omega arith in rw add-one (up_from_more 0 n ∙ rw e)
+
+-- One number more: it is taken, or passed over.
+pub rows_next : (p : ℕ → Bool) (n : ℕ) (old new : List ℕ) → old ≡ filter p (up_from 0 n)
+    → ((p n ≡ true) × (new ≡ old ++ n ∷ [])) ⊎ ((p n ≡ false) × (new ≡ old)) → new ≡ filter p (up_from 0 (n + 1))
+rows_next p n old new e o =
+    rw (rows_more n, filter-append p (up_from 0 n) (n ∷ []), ← e)
+    (⊎_elim (λ w. w.1 ∙ rw w.0) (λ w. w.1 ∙ rw w.0 (sym (append-nil old))) o)
 
 -- One test after another.
 pub filter_both : (p q r : ℕ → Bool) → ((x : ℕ) → r x ≡ (p x && q x)) → (xs : List ℕ) → filter r xs ≡ filter q (filter p xs)
@@ -61,14 +69,14 @@ module _ (p : ℕ → Bool) where
       by true e xs ih (suc k) g = let l : suc k < length (i ∷ xs) = rw e at g in rw e (omega (arith, ih k (omega arith)))
       by false e xs ih k g = rw e (omega (arith, ih k (rw e at g)))
 
-  filter_fits : (i n : ℕ) → length (filter p (up_from i n)) ≤ n
-  unfolding up_from
-  filter_fits i zero = omega arith
-  filter_fits i (suc n) = by (p i) refl
-    where
-      by : (b : Bool) → p i ≡ b → length (cond (p i) (i ∷ filter p (up_from (suc i) n)) (filter p (up_from (suc i) n))) ≤ suc n
-      by true e = rw e (omega (arith, filter_fits (suc i) n))
-      by false e = rw e (omega (arith, filter_fits (suc i) n))
+-- A test takes no more numbers than there are.
+pub filter_fits : (p : ℕ → Bool) (xs : List ℕ) → length (filter p xs) ≤ length xs
+filter_fits p xs = omega (arith, length-filter p xs, count_by-le-length p xs)
+
+pub up_from-length : (i n : ℕ) → length (up_from i n) ≡ n
+unfolding up_from
+up_from-length i zero = refl
+up_from-length i (suc n) = ap suc (up_from-length (suc i) n)
 
 -- The rows of a list, one after the other.
 module _ (ws xs : List ℕ) (f from : ℕ) where
@@ -85,7 +93,7 @@ module _ (ws xs : List ℕ) (f from : ℕ) where
 -- The listed rows of a policy that are active are rows of it.
 pub lists_within : (d : Direction) (ws : List ℕ) (f : ℕ) (before list : List ℕ) → Lists d ws f before list → There ws list
 lists_within d ws f before list e = rw e record {
-  fits = omega (arith, filter_fits (λ i. active d ws i f before) 0 (listed ws), min-le_right (length ws / row_words) row_limit);
+  fits = omega (arith, filter_fits (λ i. active d ws i f before) (up_from 0 (listed ws)), up_from-length 0 (listed ws), min-le_right (length ws / row_words) row_limit);
   places = λ k h. omega (arith, filter_below (λ i. active d ws i f before) 0 (listed ws) k h, min-le_left (length ws / row_words) row_limit);
 }
 
@@ -145,10 +153,14 @@ module _ (d : Direction) (ws vs : List ℕ) where
         ∙ search-found 0 (listed ws) (length ws / row_words - listed ws) (get_or list 0 0) (drop 1 list) (sym t ∙ drop-cons list 0 0 h) in
         sym (ap action_word r ∙ action-word (action_in ws (get_or list 0 0)))
 
-    pub lists_none : list ≡ [] → length ws / row_words ≤ row_limit → 0 ≡ action_word (ordered_search d (policy_rows ws) vs)
+    pub lists_none : length list < 1 → length ws / row_words ≤ row_limit → 0 ≡ action_word (ordered_search d (policy_rows ws) vs)
     lists_none e h =
         let m : listed ws ≡ length ws / row_words = min-eq_left h in
-        sym (ap action_word (search_none 0 (length ws / row_words) (rw m at (sym t ∙ e))))
+        sym (ap action_word (search_none 0 (length ws / row_words) (rw m at (sym t ∙ none list e))))
+      where
+        none : (xs : List ℕ) → length xs < 1 → xs ≡ []
+        none [] e = refl
+        none (x ∷ xs) e = absurd (omega arith)
 
 -- A branch with a value more is one at the next field, and one without values is one at the first field.
 module _ (d : Direction) (first second : List ℕ) where

@@ -23,7 +23,7 @@ use Rattle.layout.specs.StepsLaws.{stamped_done, laid-rows, laid_over, words-nex
 use Rattle.layout.specs.FormLaws.{form-field, form_alike, values_with}
 use Rattle.layout.specs.TurnLaws.{Reached, reached_start, reached_rows, reached-length, reached_merged, reached_again, reached_begun, rows_grow, layout_within}
 use Rattle.layout.specs.Stretches.{Joins, StretchOut, PlacedStretch}
-use Rattle.layout.specs.declared.kept.Kept.{Kept}
+use Rattle.layout.specs.declared.Kept.{Kept}
 use Rattle.layout.specs.declared.branch.Task.{Task}
 use Rattle.layout.specs.declared.LayoutError.{LayoutError}
 use Rattle.layout.specs.declared.LayoutError.TheVariants.{Over}
@@ -35,12 +35,13 @@ module _ (first second : List ℕ) (task : Task) (before : List ℕ) (f : ℕ) w
 
   -- The loop has come to the value v.
   pub record Progress (ws : List ℕ) (kept : Kept) (v : ℕ) : Type 0 where
+    pub ordered : kept.last ≤ kept.next
     pub reached : Reached parting-≟ layout_at v (part_rows f (suc (field_count - (f + 1))) ws 0 kept.last)
         (part_rows (f + 1) (field_count - (f + 1)) ws kept.last (kept.next - kept.last)) (number kept.low)
 
   pub progress_start : (ws : List ℕ) (kept : Kept) (v : ℕ) → kept.last ≡ 0 → kept.next ≡ 0 → v ≡ 0 → Progress ws kept v
   unfolding part_rows
-  progress_start ws kept v p q e = record { reached = rw (p, q, e) (reached_start parting-≟ layout_at (number kept.low)) }
+  progress_start ws kept v p q e = record { ordered = omega arith; reached = rw (p, q, e) (reached_start parting-≟ layout_at (number kept.low)) }
 
   -- The form, by the intervals of the field's values.
   form-next : f < field_count → form_at first second task before f (field_count - f) ≡ rows_of (runs parting-≟ layout_at (value_of task.highest.words f + 1))
@@ -58,7 +59,7 @@ module _ (first second : List ℕ) (task : Task) (before : List ℕ) (f : ℕ) w
 
   length_so_far : (ws : List ℕ) (kept : Kept) (v : ℕ) → Progress ws kept v → length (rows_of (runs parting-≟ layout_at v)) ≡ kept.next
   length_so_far ws kept v p =
-      reached-length parting-≟ layout_at v _ _ _ p.reached ∙ rw (rows-length, rows-length) (omega (arith, kept.ordered))
+      reached-length parting-≟ layout_at v _ _ _ p.reached ∙ rw (rows-length, rows-length) (omega (arith, p.ordered))
 
   pub over_so_far : f < field_count → (limit : ℕ) (ws : List ℕ) (kept : Kept) (v : ℕ) → Progress ws kept v → v ≤ value_of task.highest.words f + 1 → limit < kept.next
       → (ws' : List ℕ) → LaidOut limit f (field_count - f) (form_at first second task before f (field_count - f)) ws' (Err Over)
@@ -74,7 +75,7 @@ module _ (first second : List ℕ) (task : Task) (before : List ℕ) (f : ℕ) w
       let k : field_count - f ≡ suc (field_count - (f + 1)) = omega arith in
       let t : top + 1 - 1 ≡ top = omega arith in
       laid-rows limit f (field_count - f) _ ws' kept.next
-      (rw k (stamped_done f _ _ _ _ _ ws ws' s (omega arith) kept.ordered)
+      (rw k (stamped_done f _ _ _ _ _ ws ws' s (omega arith) p.ordered)
       ∙ rw t at (sym (reached_rows parting-≟ layout_at (top + 1) _ _ _ p.reached))
       ∙ ap (λ (v : ℕ). rows_of (runs parting-≟ layout_at (v + 1))) e
       ∙ sym (form-next h))
@@ -89,16 +90,17 @@ module _ (first second : List ℕ) (task : Task) (before : List ℕ) (f : ℕ) w
     alike = form_alike task.direction first second before _ v w a b
 
     kept_rows : part_rows f (suc (field_count - (f + 1))) ws' 0 old.last ≡ part_rows f (suc (field_count - (f + 1))) ws 0 old.last
-    kept_rows = rows_moved ws ws' f _ (omega arith) 0 0 old.last (λ k q. same _ (omega (arith, old.ordered)))
+    kept_rows = rows_moved ws ws' f _ (omega arith) 0 0 old.last (λ k q. same _ (omega (arith, p.ordered)))
 
     kept_block : part_rows (f + 1) (field_count - (f + 1)) ws' old.last (old.next - old.last) ≡ part_rows (f + 1) (field_count - (f + 1)) ws old.last (old.next - old.last)
-    kept_block = rows_moved ws ws' (f + 1) _ (omega arith) old.last old.last (old.next - old.last) (λ k q. same _ (omega (arith, old.ordered)))
+    kept_block = rows_moved ws ws' (f + 1) _ (omega arith) old.last old.last (old.next - old.last) (λ k q. same _ (omega (arith, p.ordered)))
 
     -- The layout behind them is known to be that of the value before.
     pub again-turn : Joins v layout_at → Progress ws' old (w + 1)
     unfolding Joins
     again-turn j =
         rw (add-one w) record {
+          ordered = p.ordered;
           reached = rw (kept_rows, kept_block) (reached_again parting-≟ layout_at v w g alike _ _ _ p.reached j.0 j.1);
         }
 
@@ -107,13 +109,15 @@ module _ (first second : List ℕ) (task : Task) (before : List ℕ) (f : ℕ) w
       merged-turn : Merged f (field_count - (f + 1)) old count ws' ws'' new → Progress ws'' new (suc w)
       merged-turn m =
           rw (m.words, m.kept) record {
-              reached = rw (kept_rows, kept_block) (reached_merged parting-≟ layout_at v w g alike _ _ _ p.reached (sym kept_block ∙ m.same ∙ block));
+            ordered = p.ordered;
+            reached = rw (kept_rows, kept_block) (reached_merged parting-≟ layout_at v w g alike _ _ _ p.reached (sym kept_block ∙ m.same ∙ block));
           }
 
       begun-turn : Begun f (field_count - (f + 1)) old count v ws' ws'' new → Progress ws'' new (suc w)
       begun-turn m =
           let c : new.next - new.last ≡ count = omega (arith, m.last, m.next) in
           record {
+            ordered = omega (arith, m.last, m.next);
             reached =
                 rw (c, m.last, m.low, m.done, m.block, block, kept_rows, kept_block)
                 (reached_begun parting-≟ layout_at v w g alike _ _ _ p.reached (λ q. m.apart (kept_block ∙ q ∙ sym block)));

@@ -13,7 +13,7 @@ use Rattle.layout.specs.Parting.{Parting, parting-≟, agreed, parting_at}
 use Rattle.layout.specs.Decode.{sizes_from, active, part_row, part_rows}
 use Rattle.layout.specs.Laid.{answer_of}
 use Rattle.layout.specs.declared.Point.{Point}
-use Rattle.layout.specs.declared.kept.Kept.{Kept}
+use Rattle.layout.specs.declared.Kept.{Kept}
 use Rattle.layout.specs.declared.branch.Task.{Task}
 use Rattle.layout.specs.declared.LayoutError.{LayoutError}
 

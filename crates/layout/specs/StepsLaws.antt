@@ -24,7 +24,7 @@ use Rattle.agree.specs.Sides.{range_of}
 use Rattle.layout.specs.Decode.{word_of, active, part_row, part_rows}
 use Rattle.layout.specs.DecodeLaws.{row_ranges_moved, row_moved, rows_moved, rows_split, rows-length}
 use Rattle.layout.specs.Steps.{AlikeTo, AlikeAmong, SearchAlike, IntervalEnd, Outside, Stamped, Begun, LaidOut, words_for}
-use Rattle.layout.specs.declared.kept.Kept.{Kept}
+use Rattle.layout.specs.declared.Kept.{Kept}
 use Rattle.layout.specs.declared.LayoutError.TheVariants.{Over}
 use Rattle.layout.specs.Parting.{Parting}
 
@@ -191,17 +191,17 @@ module _ (f n a b low high : ℕ) (ws ws' : List ℕ) (s : Stamped f n a b low h
   stamped-behind g m h count = rows_moved ws ws' g m h b b count (λ k p. s.others _ (inr (omega arith)))
 
 -- An interval ends and another one begins.
-pub begun : (f n : ℕ) (old : Kept) (count : ℕ) (from before : Value) (ws ws' : List ℕ) (new : Kept) → f + suc n ≤ field_count
+pub begun : (f n : ℕ) (old : Kept) (count : ℕ) (from before : Value) (ws ws' : List ℕ) (new : Kept) → f + suc n ≤ field_count → old.last ≤ old.next
     → new.last ≡ old.next → new.next ≡ old.next + count → number new.low ≡ number from → number before ≡ number from - 1
     → part_rows (f + 1) n ws old.last (old.next - old.last) ≢ part_rows (f + 1) n ws old.next count
     → Stamped f n old.last old.next (number old.low) (number before) ws ws'
     → Begun f n old count (number from) ws ws' new
-begun f n old count from before ws ws' new h p q r e d s = record {
+begun f n old count from before ws ws' new h g p q r e d s = record {
   last = p;
   next = q;
   low = r;
   apart = d;
-  done = rw e at (stamped_done f n old.last old.next (number old.low) (number before) ws ws' s h old.ordered);
+  done = rw e at (stamped_done f n old.last old.next (number old.low) (number before) ws ws' s h g);
   block = stamped-behind f n old.last old.next (number old.low) (number before) ws ws' s (f + 1) n (omega arith) count;
 }
 

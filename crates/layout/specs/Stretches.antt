@@ -7,7 +7,7 @@ use Rattle.cover.specs.Boxes.{InBox}
 use Rattle.layout.specs.Parting.{Parting}
 use Rattle.layout.specs.Decode.{sizes_from}
 use Rattle.layout.specs.Steps.{LaidOut, Placed}
-use Rattle.layout.specs.declared.kept.Kept.{Kept}
+use Rattle.layout.specs.declared.Kept.{Kept}
 use Rattle.layout.specs.declared.LayoutError.{LayoutError}
 use Rattle.layout.specs.declared.LayoutError.TheVariants.{Over}
 use Rattle.layout.specs.declared.Point.{Point}

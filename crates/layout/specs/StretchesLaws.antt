@@ -12,7 +12,7 @@ use Rattle.layout.specs.Steps.{LaidOut, Placed}
 use Rattle.layout.specs.StepsLaws.{laid-rows}
 use Rattle.layout.specs.ProgressLaws.{laid-count}
 use Rattle.layout.specs.Stretches.{Joins, StretchOut, PlacedStretch}
-use Rattle.layout.specs.declared.kept.Kept.{Kept}
+use Rattle.layout.specs.declared.Kept.{Kept}
 use Rattle.layout.specs.declared.LayoutError.{LayoutError}
 use Rattle.layout.specs.declared.LayoutError.TheVariants.{Over}
 

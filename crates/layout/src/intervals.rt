@@ -4,8 +4,7 @@ ghost use Rattle.selectors.specs.Ranges.{ends_range};
 ghost use Rattle.selectors.specs.Value.{number};
 ghost use Rattle.selectors.specs.Words.{field_count, values_from};
 ghost use Rattle.policy.specs.Words.{row_words};
-ghost use Rattle.agree.specs.Sides.{range_of};
-ghost use Rattle.layout.specs.AgreeStub.{There};
+ghost use Rattle.agree.specs.Sides.{range_of, There};
 ghost use Rattle.layout.specs.Decode.{active as isActive};
 ghost use Rattle.layout.specs.Lists.{AlikeListed, CutsAt};
 ghost use Rattle.layout.specs.Steps.{IntervalEnd, AlikeTo, AlikeAmong, SearchAlike};
@@ -143,5 +142,13 @@ pub(crate) fn interval_end(
     let point = &branch.point;
     let field = branch.field;
     let best = end_among(branch.first, direction, point, cuts, field, from, top);
-    end_among(branch.second, direction, point, other_cuts, field, from, best)
+    end_among(
+        branch.second,
+        direction,
+        point,
+        other_cuts,
+        field,
+        from,
+        best,
+    )
 }

@@ -1,10 +1,8 @@
 // Lays policies out into their normal form, and two policies into their difference (document 01, 'One normal form').
 #![tactic(auto)]
 
-mod adapt;
 mod branch;
 mod intervals;
-mod kept;
 mod lists;
 mod room;
 mod stretches;
@@ -18,13 +16,12 @@ ghost use Rattle.layout.specs.Parting.{difference_form};
 ghost use Rattle.layout.specs.Steps.{LaidOut, field_form, value_form, words_for};
 ghost use Rattle.layout.specs.Stretches.{StretchOut};
 
-use crate::adapt::cutting;
 use crate::branch::{Branch, Task};
 use crate::intervals::interval_end;
-use crate::kept::{START, ZERO};
 use crate::lists::{narrow, rows_for, with_value};
 use crate::room::{place_stretch, stamp};
 use crate::stretches::{joined, known_alike, leaf};
+use agree::cutting;
 use arrayvec::ArrayVec;
 use policy::{LIMIT, ROW_WORDS};
 use selectors::words::{FIELDS, SELECTOR_WORDS, VALUE_WORDS, value_at};
@@ -48,10 +45,30 @@ pub enum LayoutError {
     NoRoom,
 }
 
+// The rows from `last` to `next` are those of the last interval, which begins at the value `low`; those before it are done.
+#[derive(Clone, Copy)]
+struct Kept {
+    last: usize,
+    next: usize,
+    low: Value,
+}
+
+const ZERO: Value = Value { upper: 0, lower: 0 };
+
+const START: Kept = Kept {
+    last: 0,
+    next: 0,
+    low: ZERO,
+};
+
 // Lays out what follows the branch's field at its value `from`: the next field, or the leaf where none is left. None: it is known to be what
 // follows the value before.
 #[cycle(layout_field_layout_stretch)]
-fn layout_stretch(branch: &Branch, from: Value, room: &mut [u64]) -> Result<Option<usize>, LayoutError>
+fn layout_stretch(
+    branch: &Branch,
+    from: Value,
+    room: &mut [u64],
+) -> Result<Option<usize>, LayoutError>
     requires field_lt_field_count { branch.now.field < field_count }
     requires field_in_bounds { words_for branch.now.task.now.limit (field_count - (branch.now.field + 1)) ≤ length room.old }
     ensures { StretchOut branch.now.task.now.limit (branch.now.field + 1) (field_count - (branch.now.field + 1)) (number from) (value_form branch.now.first.now branch.now.second.now branch.now.task.now branch.now.point branch.now.field) room.new result }

@@ -5,7 +5,7 @@ ghost use Rattle.selectors.specs.Value.{number};
 ghost use Rattle.selectors.specs.Words.{field_count, value_words, ends_at, values_from, words_of_value};
 ghost use Rattle.policy.specs.Policy.{ordered_search};
 ghost use Rattle.policy.specs.Words.{policy_rows, action_word, row_words};
-ghost use Rattle.layout.specs.AgreeStub.{There};
+ghost use Rattle.agree.specs.Sides.{There};
 ghost use Rattle.layout.specs.Decode.{word_of, active as isActive};
 ghost use Rattle.layout.specs.Lists.{Lists, Narrowed};
 
@@ -95,8 +95,8 @@ pub(crate) fn action_at(rows: &[u64], direction: Direction, point: &Point, list:
     requires { Lists direction rows.now field_count (values_from point.now.words 0 field_count) list.now }
     ensures { result ≡ action_word (ordered_search direction (policy_rows rows.now) (values_from point.now.words 0 field_count)) }
 {
-    if let Some(&row) = list.first() {
-        return rows[usize::from(row) * ROW_WORDS + 1];
+    if let [row, ..] = list {
+        return rows[usize::from(*row) * ROW_WORDS + 1];
     }
     if rows.len() / ROW_WORDS <= LIMIT {
         return 0;

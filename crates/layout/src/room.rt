@@ -8,7 +8,7 @@ ghost use Rattle.layout.specs.Decode.{row_ranges, part_row, part_rows};
 ghost use Rattle.layout.specs.Steps.{Stamped, Placed};
 ghost use Rattle.layout.specs.Stretches.{PlacedStretch};
 
-use crate::kept::Kept;
+use crate::Kept;
 use policy::{HEAD_WORDS, ROW_WORDS};
 use selectors::words::{FIELDS, RANGE_WORDS, ends_at, put_ends};
 use selectors::{Ends, Value};
@@ -98,7 +98,7 @@ fn same_block(room: &[u64], last: usize, next: usize, count: usize, field: usize
 
 // The last interval goes on, or it ends and one begins with the `count` rows behind it, which are the layout at `from`.
 fn place(room: &mut [u64], kept: Kept, count: usize, field: usize, from: Value) -> Kept
-    requires { (field < field_count) × ((kept.next + count) * row_words ≤ length room.old) }
+    requires { (field < field_count) × ((kept.last ≤ kept.next) × ((kept.next + count) * row_words ≤ length room.old)) }
     ensures { Placed field (field_count - (field + 1)) kept count (number from) room.old room.new result }
 {
     let last = kept.last;
@@ -122,7 +122,7 @@ pub(crate) fn place_stretch(
     field: usize,
     from: Value,
 ) -> Kept
-    requires field_lt_field_count { field < field_count }
+    requires field_lt_field_count { (field < field_count) × (kept.last ≤ kept.next) }
     requires by_index { (count : ℕ) → laid ≡ Some count → (kept.next + count) * row_words ≤ length room.old }
     ensures { PlacedStretch field (field_count - (field + 1)) kept laid (number from) room.old room.new result }
 {

@@ -6,11 +6,10 @@ ghost use Rattle.policy.specs.Words.{row_words, row_limit};
 ghost use Rattle.layout.specs.Steps.{LaidOut, field_form, value_form};
 ghost use Rattle.layout.specs.Stretches.{Joins, Whole};
 
-use crate::adapt::{agree, same_behind};
 use crate::branch::Branch;
-use crate::kept::ZERO;
 use crate::lists::action_at;
-use crate::{LayoutError, Point};
+use crate::{LayoutError, Point, ZERO};
+use agree::{agree, same_behind};
 use cover::Bounds;
 use policy::{LIMIT, ROW_WORDS};
 use selectors::Value;

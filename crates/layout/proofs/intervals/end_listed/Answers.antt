@@ -12,10 +12,12 @@ pub loop-row-init : goal.loop-row-init
 loop-row-init c = listed_start _ _ _ _ _ c.requires.1.1
 
 pub range_end-end-requires : goal.range_end-end-requires
-range_end-end-requires c = ?
+range_end-end-requires c =
+    let row_in : c.from.result < length c.args.rows.now / row_words = omega (arith, c.from.ensures, c.requires.1.0.places c.loop-row.row-index c.loop-row-test.true) in
+    let h = row_in in record { field_lt_field_count = (search rules, search rules); from_bound = c.loop-row.invariant.reaches }
 
 pub loop-row-preserved : goal.loop-row-preserved
-loop-row-preserved c = ?
+loop-row-preserved c = listed_more _ _ _ _ _ _ _ _ c.loop-row.invariant (rw c.from.ensures at c.range_end-end.ensures)
 
 pub returns : goal.returns
-returns c = ?
+returns c = let e : c.loop-row.row-index ≡ length c.args.list.now = omega arith in rw e at c.loop-row.invariant
