@@ -127,10 +127,8 @@ impl FieldRange for AddressRange {
     ghost has_values = { Prim.search rules };
 
     fn from_ends(ends: Ends) -> AddressRange {
-        AddressRange {
-            low: ends.low,
-            high: ends.high,
-        }
+        let Ends { low, high } = ends;
+        AddressRange { low, high }
     }
 
     fn ends(self) -> Ends {
@@ -168,10 +166,8 @@ impl FieldRange for ProtocolRange {
     ghost has_values = { Prim.search rules };
 
     fn from_ends(ends: Ends) -> ProtocolRange {
-        ProtocolRange {
-            low: ends.low,
-            high: ends.high,
-        }
+        let Ends { low, high } = ends;
+        ProtocolRange { low, high }
     }
 
     fn ends(self) -> Ends {
@@ -206,10 +202,8 @@ impl FieldRange for PortRange {
     ghost has_values = { Prim.search rules };
 
     fn from_ends(ends: Ends) -> PortRange {
-        PortRange {
-            low: ends.low,
-            high: ends.high,
-        }
+        let Ends { low, high } = ends;
+        PortRange { low, high }
     }
 
     fn ends(self) -> Ends {
