@@ -46,10 +46,7 @@ fn has(words: &[u64], at: usize, count: usize) -> bool
 fn word_at(words: &[u64], at: usize) -> u64
     ensures { result ≡ get_or words.now at 0 }
 {
-    if at < words.len() {
-        return words[at];
-    }
-    0
+    words.get(at).copied().unwrap_or(0)
 }
 
 // A value whose words are there.
