@@ -1,6 +1,6 @@
 -- What `==`, `<` and `<=` say of two values: the same of their numbers. Assumes nothing.
-use Rattle.std.specs.Prelude.{Bool, true, false, ℕ, ◌≡◌, ◌<◌, ◌≤◌, ltb, leb, eqb}
-use Rattle.std.proofs.Common.{arith, lt-ltb, le-ltb, eq-eqb, ne_eqb, le-leb, refl}
+use Rattle.std.specs.Prelude.{ℕ, ◌≡◌, ◌<◌, ltb, leb}
+use Rattle.std.proofs.Common.{arith, lt-ltb, le-ltb, eq-eqb, ne_eqb, le-leb}
 use borrow.Author.Tests.{lt-leb}
 use Rattle.std.proofs.Math.Decide.{dec_lt, ℕ_discrete}
 use Rattle.std.specs.Ordering.{nat_cmp, on, as_partial_cmp, partial_lt, partial_le}

@@ -1,5 +1,5 @@
 -- `FieldRange::is_any` meets its contract: the ends are those of `ANY`, which has all values of the field. Assumes nothing.
-use Rattle.std.proofs.Common.{◌≡◌, ap, sym, ◌∙◌}
+use Rattle.std.proofs.Common.{ap, ◌∙◌}
 use Rattle.selectors.specs.Range.{Range, same_range, full}
 use Rattle.selectors.specs.Ranges.{ends_range}
 use Rattle.selectors.proofs.ranges.FieldRange.is_any.Goals as goal

@@ -1,8 +1,8 @@
 -- `FieldRange::new` meets its contract: low above high, or an end beyond the field, or a range of it. Assumes nothing.
-use Rattle.std.proofs.Common.{◌≡◌, ap, sym, arith, ◌∙◌}
+use Rattle.std.proofs.Common.{ap, sym, ◌∙◌}
 use borrow.Author.Tests.{ltb-true, ltb-false}
 use Rattle.selectors.specs.Range.{Range}
-use Rattle.selectors.specs.Ranges.{from_to, new_range}
+use Rattle.selectors.specs.Ranges.{from_to}
 use Rattle.selectors.proofs.RangeLaws.{in_field_reversed, in_field_beyond, in_field_within}
 use Rattle.selectors.proofs.OrderLaws.{value-lt}
 use Rattle.selectors.proofs.ranges.FieldRange.new.Goals as goal
