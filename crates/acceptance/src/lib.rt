@@ -7,7 +7,7 @@ ghost use Rattle.policy_text.specs.Editions.{rules, rows, parse_policy};
 ghost use Rattle.acceptance.specs.Spd.{held_words, spd_words, no_rules, accepting, spd_after, empty_caches, caches_after};
 ghost use Rattle.acceptance.specs.declared.AcceptError.TheVariants.{Refused};
 
-use policy::{POLICY_WORDS, ROW_WORDS};
+use policy::POLICY_WORDS;
 use policy_text::{Edition, Refusal};
 use selectors::Direction;
 use spd::{IN_ROWS, OUT_ROWS, SPD_WORDS};
@@ -87,11 +87,13 @@ fn load(
     ensures caches_after { caches.new ≡ caches_after row_limit caches.old (rows (rules edition (policy_rows policy.now))) }
 {
     let mut outbound = [0u64; POLICY_WORDS];
-    let out_count = decorrelate::form_of(edition, policy, Direction::Out, &mut outbound)
-        .map_err(|_| AcceptError::TooLarge(Direction::Out))?;
+    let Ok(out_count) = decorrelate::form_of(edition, policy, Direction::Out, &mut outbound) else {
+        return Err(AcceptError::TooLarge(Direction::Out));
+    };
     let mut inbound = [0u64; POLICY_WORDS];
-    let in_count = decorrelate::form_of(edition, policy, Direction::In, &mut inbound)
-        .map_err(|_| AcceptError::TooLarge(Direction::In))?;
+    let Ok(in_count) = decorrelate::form_of(edition, policy, Direction::In, &mut inbound) else {
+        return Err(AcceptError::TooLarge(Direction::In));
+    };
     let address = words[0];
     write(words, address, out_count, &outbound, in_count, &inbound);
     *caches = Caches::empty();
@@ -110,5 +112,5 @@ pub fn accept(
 {
     let mut policy = [0u64; POLICY_WORDS];
     let parsed = policy_parse::parse_policy(bytes, &mut policy)?;
-    load(words, caches, parsed.edition, &policy[..parsed.count * ROW_WORDS])
+    load(words, caches, parsed.edition, policy::first_rows(&policy, parsed.count))
 }
