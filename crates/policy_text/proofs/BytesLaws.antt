@@ -68,6 +68,10 @@ has_any b (x ∷ s) = by (eqb x b) (has_any b s)
     by true h = sym (lt-ltb zero (suc (length s)) (omega arith))
     by false h = h ∙ ltb_suc (index b s) (length s)
 
+-- What a test by `contains` says.
+pub has_is : (b : ℕ) (s : List ℕ) {r t : Bool} → r ≡ list_any (λ x. eqb x b) s → r ≡ t → has b s ≡ t
+has_is b s e q = sym (has_any b s) ∙ sym e ∙ q
+
 -- Whether two texts are the same, as std's `==` says it.
 pub same_pointwise : (s t : List ℕ) → pointwise eqb s t ≡ are_same_bytes s t
 unfolding are_same_bytes
