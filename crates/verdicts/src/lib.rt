@@ -10,7 +10,7 @@ use policy::Action;
 use sad::{PairFound, TABLE_WORDS};
 use selectors::Selectors;
 
-#[derive(Clone, Copy)]
+#[derive(Clone, Copy, Debug, PartialEq, Eq)]
 pub enum Verdict {
     // 0: pass in clear.
     Pass,
@@ -45,8 +45,7 @@ pub enum Verdict {
 fn protect(table: &[u64; TABLE_WORDS], selectors: Selectors, number: u64) -> Verdict
     ensures { result ≡ outbound_action (pairs table.now) (combination selectors) (Action.Protect number) }
 {
-    let found = sad::pair_for(table, number, selectors);
-    match found {
+    match sad::pair_for(table, number, selectors) {
         PairFound::Found(protocol, spi) => Verdict::Protect(number, protocol, spi),
         PairFound::Nothing => Verdict::Wanted(number),
     }
