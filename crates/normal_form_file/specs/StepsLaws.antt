@@ -1,6 +1,6 @@
 -- What the steps of normalising give: the normal form's rows, printed, and the printer's answer. Assumes nothing.
 use Rattle.std.specs.Prelude.{ℕ, ◌≤◌, ◌<◌, ◌≡◌, refl, Bool, true, false, Result, Ok, Err, List, leb, length}
-use Rattle.std.proofs.Common.{ap, le-leb}
+use Rattle.std.proofs.Common.{ap, ◌∙◌, le-leb}
 use Rattle.std.proofs.lemmas.Simd.{map-map}
 use Rattle.std.proofs.lemmas.Bool.{lt-leb}
 use Rattle.selectors.specs.declared.Direction.{Direction}
@@ -40,3 +40,12 @@ module _ (limit : ℕ) (d : Direction) (rs : Rules) (room : List ℕ) where
           × (printed_room room (form_file d rs) ≡ normalised_bytes limit d room (rows rs))
       by true e = (rw (le-leb (length (form d rs)) limit h, e), rw (le-leb (length (form d rs)) limit h, e))
       by false e = (rw (le-leb (length (form d rs)) limit h, e), rw (le-leb (length (form d rs)) limit h, e))
+
+  -- What printing the words of the normal form answers and leaves.
+  pub print_done : length (form d rs) ≤ limit → (ws : List ℕ) → ws ≡ form_words (form d rs) → (r : Result ℕ NoRoom) (out : List ℕ)
+      → r ≡ printed_in (length room) (printed rs.edition d (policy_rows ws)) → out ≡ printed_room room (printed rs.edition d (policy_rows ws))
+      → (answered r ≡ normalised limit d (length room) (rows rs)) × (out ≡ normalised_bytes limit d room (rows rs))
+  print_done h ws e r out value after =
+      let f = printed-form d rs ws e in
+      let p = printing h in
+      (ap answered value ∙ rw f p.0, after ∙ rw f p.1)

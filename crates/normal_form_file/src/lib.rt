@@ -7,7 +7,7 @@ ghost use Rattle.policy_text.specs.Editions.{rules, rows, parse_policy};
 ghost use Rattle.normal_form_file.specs.Normalise.{normalised, normalised_bytes};
 ghost use Rattle.normal_form_file.specs.declared.NormaliseError.TheVariants.{Refused, NoRoom as ShortRoom};
 
-use policy::{POLICY_WORDS, ROW_WORDS};
+use policy::POLICY_WORDS;
 use policy_print::NoRoom;
 use policy_text::{Edition, Refusal};
 use selectors::Direction;
@@ -49,9 +49,10 @@ fn print_form(
     ensures out_after { out.new ≡ normalised_bytes row_limit direction out.old (rows (rules edition (policy_rows policy.now))) }
 {
     let mut words = [0u64; POLICY_WORDS];
-    let count = decorrelate::form_of(edition, policy, direction, &mut words)
-        .map_err(|_| NormaliseError::TooLarge(direction))?;
-    let bytes = policy_print::print(edition, &words[..count * ROW_WORDS], direction, out)?;
+    let Ok(count) = decorrelate::form_of(edition, policy, direction, &mut words) else {
+        return Err(NormaliseError::TooLarge(direction));
+    };
+    let bytes = policy_print::print(edition, policy::first_rows(&words, count), direction, out)?;
     Ok(bytes)
 }
 
@@ -66,5 +67,5 @@ pub fn normalise(
 {
     let mut policy = [0u64; POLICY_WORDS];
     let parsed = policy_parse::parse_policy(bytes, &mut policy)?;
-    print_form(parsed.edition, &policy[..parsed.count * ROW_WORDS], direction, out)
+    print_form(parsed.edition, policy::first_rows(&policy, parsed.count), direction, out)
 }

@@ -1,7 +1,7 @@
 // Policies as rows of words in a flat slice, and the ordered search over them (document 01; RFC 4301's SPD; docs/RULES.md, 'The ordered search').
 #![tactic(auto)]
 
-ghost use Rattle.std.specs.Prelude.{◌≡◌, ◌+◌, ◌≤◌, length};
+ghost use Rattle.std.specs.Prelude.{◌≡◌, ◌+◌, ◌*◌, ◌≤◌, length, take};
 ghost use Rattle.std.proofs.lemmas.List.Edits.{sets};
 ghost use Rattle.selectors.specs.Value.{combination};
 ghost use Rattle.selectors.specs.Words.{values_of};
@@ -53,6 +53,13 @@ pub const ROW_WORDS: usize = HEAD_WORDS + RANGES_WORDS;
 pub const LIMIT: usize = 256;
 
 pub const POLICY_WORDS: usize = LIMIT * ROW_WORDS;
+
+// The words of the first rows of a room for the limit's rows; of more rows than the limit, those that the room has.
+pub fn first_rows(room: &[u64; POLICY_WORDS], count: usize) -> &[u64]
+    ensures { result.now ≡ take (count * row_words) room.now }
+{
+    &room[..count.min(LIMIT) * ROW_WORDS]
+}
 
 // Every word is a direction, and every direction a word.
 impl From<u64> for RowDirection {

@@ -12,10 +12,12 @@ ghost use Rattle.policy_text.specs.Edition1.{dotted, port_text, action_text, edi
 ghost use Rattle.policy_text.specs.Print.{range_text, ranges_text, direction_text, line_text, rows_text, toward};
 ghost use Rattle.policy_print.specs.Printing.{Stored, printed, printed_in, printed_room};
 
-use policy::{Action, ROW_WORDS, RowDirection, action_of};
+use policy::{Action, ROW_WORDS, RowDirection};
 use policy_text::Edition;
 use selectors::words::ranges_at;
-use selectors::{ABSENT, AddressRange, Direction, Ends, PortRange, ProtocolRange, Ranges, Value};
+use selectors::{
+    ABSENT, AddressRange, Direction, Ends, FieldRange, PortRange, ProtocolRange, Ranges, Value,
+};
 
 // The lent room is shorter than the file.
 #[derive(Clone, Copy, Debug, PartialEq, Eq)]
@@ -36,12 +38,10 @@ impl Kind {
     fn is_full(self, range: Ends) -> bool
         ensures { result ≡ same_range (ends_range range) (full (field_of self).size) }
     {
-        let low = range.low;
-        let high = range.high;
         match self {
-            Kind::Address => AddressRange { low, high }.is_any(),
-            Kind::Protocol => ProtocolRange { low, high }.is_any(),
-            Kind::Port => PortRange { low, high }.is_any(),
+            Kind::Address => AddressRange::from_ends(range).is_any(),
+            Kind::Protocol => ProtocolRange::from_ends(range).is_any(),
+            Kind::Port => PortRange::from_ends(range).is_any(),
         }
     }
 }
@@ -105,7 +105,7 @@ impl Writer<'_> {
     fn put_port(&mut self, port: Value)
         ensures { Puts self.old (port_text (number port)) self.new }
     {
-        if port.same(ABSENT) {
+        if port == ABSENT {
             self.put_text(b"opaque");
         } else {
             self.put_decimal(port.lower);
@@ -133,7 +133,7 @@ impl Writer<'_> {
             return;
         }
         self.put_value(kind, range.low);
-        if !range.low.same(range.high) {
+        if range.low != range.high {
             self.put(b'-');
             self.put_value(kind, range.high);
         }
@@ -178,7 +178,7 @@ impl Writer<'_> {
     {
         self.put_direction(direction);
         self.put(b'\t');
-        self.put_action(action_of(rows[from + 1]));
+        self.put_action(Action::from(rows[from + 1]));
         self.put_ranges(ranges_at(rows, from + 2));
         self.put(b'\n');
     }

@@ -1,5 +1,5 @@
 -- Two files are the same policy exactly where every search agrees. Assumes nothing.
-use Rattle.std.specs.Prelude.{ℕ, ◌≡◌, refl, Bool, true, false, Ok, ◌↔◌}
+use Rattle.std.specs.Prelude.{ℕ, ◌≡◌, refl, Bool, true, false, Result, Ok, Err, MatchResult, is_ok, ◌↔◌}
 use Rattle.std.proofs.Common.{arith, sym}
 use Rattle.std.proofs.lemmas.Bool.{false≢true}
 use mathlib.Core.List.{List, [], ◌∷◌, cons-ne-nil}
@@ -43,3 +43,9 @@ pub by_agreement : (d : Direction) (e : Edition) (rs qs : List PolicyRow) (b : B
 by_agreement d e rs qs true h = sym ((same_empty (difference_form (edition_sizes e) d rs qs)).1 ((difference_none (edition_sizes e) d rs qs).1 (h.0 refl)))
 by_agreement d e rs qs false h =
     sym ((different_some (difference_form (edition_sizes e) d rs qs)).1 (λ q. false≢true (h.1 ((difference_none (edition_sizes e) d rs qs).0 q))))
+
+-- What `map_err` passes on was there.
+pub from_map_err : {T E : Type 0} (D : Type 0) (r : Result T E) (v : T) (Q : E → Type 0) → MatchResult r (λ x. ◌≡◌ {A = Result T D} (Ok v) (Ok x)) Q → true ≡ is_ok r
+    → r ≡ Ok v
+from_map_err D (Ok x) v Q m e = let k : v ≡ x = cc in rw k
+from_map_err D (Err y) v Q m e = absurd (false≢true (sym e))

@@ -6,7 +6,7 @@ ghost use Rattle.policy.specs.Words.{row_limit};
 ghost use Rattle.policy_text.specs.Editions.{parse_policy};
 ghost use Rattle.same_policy.specs.Same.{compared};
 
-use policy::{POLICY_WORDS, ROW_WORDS};
+use policy::POLICY_WORDS;
 use policy_text::Refusal;
 use selectors::Direction;
 
@@ -22,13 +22,13 @@ pub fn same_policy(first: &[u8], second: &[u8], direction: Direction) -> Result<
     ensures { result ≡ compared direction (parse_policy row_limit first.now) (parse_policy row_limit second.now) }
 {
     let mut first_room = [0u64; POLICY_WORDS];
-    let first_rows = policy_parse::parse_policy(first, &mut first_room).map_err(CompareError::First)?;
+    let first_parsed = policy_parse::parse_policy(first, &mut first_room).map_err(CompareError::First)?;
     let mut second_room = [0u64; POLICY_WORDS];
-    let second_rows = policy_parse::parse_policy(second, &mut second_room).map_err(CompareError::Second)?;
+    let second_parsed = policy_parse::parse_policy(second, &mut second_room).map_err(CompareError::Second)?;
     let same = decorrelate::same(
-        first_rows.edition,
-        &first_room[..first_rows.count * ROW_WORDS],
-        &second_room[..second_rows.count * ROW_WORDS],
+        first_parsed.edition,
+        policy::first_rows(&first_room, first_parsed.count),
+        policy::first_rows(&second_room, second_parsed.count),
         direction,
     );
     Ok(same)

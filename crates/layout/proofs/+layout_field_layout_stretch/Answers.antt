@@ -9,7 +9,7 @@ use borrow.Author.Tests.{ltb-true, ltb-false}
 use borrow.Rule.Slice.PartMut.{same_len_mid}
 use Rattle.selectors.proofs.ValueLaws.{Words, number_bound}
 use Rattle.selectors.specs.Value.{number}
-use Rattle.selectors.specs.Words.{field_count, values_from}
+use Rattle.selectors.specs.Words.{values_from}
 use Rattle.policy.specs.Words.{row_words}
 use Rattle.layout.specs.AlikeLaws.{cuts_at}
 use Rattle.layout.specs.FormLaws.{values_length}

@@ -2,7 +2,6 @@
 -- nothing.
 use native.Mathlib.Omega.{arith}
 use mathlib.Core.Path.{refl, ◌∙◌}
-use borrow.Author.Rules.{rules}
 use Rattle.layout.specs.LaidLaws.{all_words, no_room, laid_all}
 use Rattle.layout.specs.ListsLaws.{branch_start}
 use Rattle.layout.specs.StretchesLaws.{laid_empty}
