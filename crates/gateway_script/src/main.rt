@@ -23,8 +23,8 @@ mod operations;
 use operations::Gateway;
 use program_input::{Reason, read_full};
 use std::env::FillError;
+use std::fmt::Display;
 use std::fs::File;
-use std::io;
 use std::io::Read;
 use std::rt::{Env, Files};
 
@@ -43,22 +43,18 @@ fn main(rt: HostRuntime) {
 
 fn from_file(rt: &HostRuntime, name: &[u8]) {
     let Ok(path) = str::from_utf8(name) else {
-        say(rt, "gateway_script: FILE: name is not UTF-8");
+        say(rt, "FILE: name is not UTF-8");
         return;
     };
     match File::open(rt, path) {
         Ok(mut file) => from_input(rt, &mut file),
-        Err(error) => fail(rt, error),
+        Err(error) => say(rt, format_args!("FILE: {}", Reason(error))),
     }
 }
 
-// Says that the file cannot be opened, and the system's reason.
-fn fail(rt: &impl Eprint, error: io::Error) {
-    let _ = eprintln!(rt; "gateway_script: FILE: {}", Reason(error));
-}
-
-fn say(rt: &impl Eprint, words: &str) {
-    let _ = eprintln!(rt; "{words}");
+// A line on standard error. Where it cannot be written, nothing more is said.
+fn say(rt: &impl Eprint, words: impl Display + Drop) {
+    let _ = eprintln!(rt; "gateway_script: {words}");
 }
 
 // The room is one byte longer than the longest script that is read.
@@ -66,7 +62,7 @@ fn from_input(rt: &(impl Print + Eprint), source: &mut impl Read) {
     let mut room = [0u8; MOST_READ + 1];
     let input = read_full(source, &mut room);
     if input.count > MOST_READ {
-        say(rt, "gateway_script: script longer than 131072 bytes");
+        say(rt, "script longer than 131072 bytes");
         return;
     }
     replay(rt, &room[..input.count]);

@@ -15,7 +15,7 @@ use sad::{NewPair, TABLE_WORDS};
 use selectors::{Direction, Ends, Ranges, Value};
 use spd::SPD_WORDS;
 
-#[derive(Clone, Copy)]
+#[derive(Drop)]
 pub struct Gateway {
     pub policy: [u64; SPD_WORDS],
     pub table: [u64; TABLE_WORDS],
