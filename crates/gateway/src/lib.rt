@@ -9,7 +9,7 @@ ghost use Rattle.spd.specs.Words.{rows_of, address_of};
 ghost use Rattle.verdicts.specs.Calls.{trigger_read, from_sa_by};
 ghost use Rattle.gateway.specs.Cached.{outbound_cached, inbound_cached};
 
-use sad::{Place, TABLE_WORDS};
+use sad::TABLE_WORDS;
 use selectors::Direction;
 use spd::SPD_WORDS;
 use spd_cache::RowCache;
@@ -74,8 +74,7 @@ fn from_trigger(table: &[u64; TABLE_WORDS], place: usize, header: &[u8]) -> Verd
 pub fn from_sa(table: &[u64; TABLE_WORDS], protocol: u64, spi: u32, bytes: &[u8]) -> Verdict
     ensures { result ≡ from_sa_by protocol spi (pairs table.now) bytes.now }
 {
-    let found = sad::place_of(table, protocol, spi);
-    let Place::At(place) = found else {
+    let Some(place) = sad::place_of(table, protocol, spi) else {
         return Verdict::NoSuchPair;
     };
     let Some(packet) = packet::read(bytes, Direction::In) else {

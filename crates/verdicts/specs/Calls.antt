@@ -9,8 +9,7 @@ use Rattle.packet.specs.Header.{four}
 use Rattle.packet.specs.Read.{read_packet, read_trigger, trigger_of, icmp_error}
 use Rattle.packet.specs.declared.Packet.{Packet}
 use Rattle.sad.specs.Pairs.{esp_protocol, ah_protocol, Pair, live, fitting, pair_for}
-use Rattle.sad.specs.declared.PairFound.{PairFound}
-use Rattle.sad.specs.declared.PairFound.TheVariants.{Found, Nothing}
+use Rattle.sad.specs.declared.Sa.{Sa}
 use Rattle.verdicts.specs.declared.Verdict.{Verdict}
 use Rattle.verdicts.specs.declared.Verdict.TheVariants.{Pass, Deliver, Protect, Wanted, ToIpsec, NotReadable, Discarded, CameInClear, NoSuchPair, DoesNotFit, IpsecFragment, IpsecTooShort, TriggerUnreadable, TriggerDoesNotFit}
 
@@ -19,9 +18,9 @@ abbrev pub shows : Packet → List ℕ
 shows k = combination k.selectors
 
 -- 'Protect-N: among live pairs with number N whose ranges hold the values …: 2. None: 3.'
-abbrev pub protected : ℕ → PairFound → Verdict
-protected n (Found protocol spi) = Protect n protocol spi
-protected n Nothing = Wanted n
+abbrev pub protected : ℕ → Option Sa → Verdict
+protected n (Some sa) = Protect n sa.protocol sa.spi
+protected n None = Wanted n
 
 -- 'Bypass: 0. Discard: 11.'
 abbrev pub outbound_action : List Pair → List ℕ → Action → Verdict

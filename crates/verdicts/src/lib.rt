@@ -7,7 +7,7 @@ ghost use Rattle.sad.specs.Pairs.{pairs};
 ghost use Rattle.verdicts.specs.Calls.{outbound_action, inbound_action};
 
 use policy::Action;
-use sad::{PairFound, TABLE_WORDS};
+use sad::TABLE_WORDS;
 use selectors::Selectors;
 
 #[derive(Clone, Copy, Debug, PartialEq, Eq)]
@@ -46,8 +46,8 @@ fn protect(table: &[u64; TABLE_WORDS], selectors: Selectors, number: u64) -> Ver
     ensures { result ≡ outbound_action (pairs table.now) (combination selectors) (Action.Protect number) }
 {
     match sad::pair_for(table, number, selectors) {
-        PairFound::Found(protocol, spi) => Verdict::Protect(number, protocol, spi),
-        PairFound::Nothing => Verdict::Wanted(number),
+        Some(sa) => Verdict::Protect(number, sa.protocol, sa.spi),
+        None => Verdict::Wanted(number),
     }
 }
 
