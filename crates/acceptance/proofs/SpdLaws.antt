@@ -1,5 +1,5 @@
 -- Laws of the words of a gateway that holds a policy. Assumes nothing.
-use Rattle.std.specs.Prelude.{ℕ, ◌-◌, ◌*◌, ◌≤◌, min, ◌≡◌, refl, ◌↔◌, List, [], ◌∷◌, length, take, replicate}
+use Rattle.std.specs.Prelude.{ℕ, ◌-◌, ◌*◌, ◌≤◌, min, ◌≡◌, refl, ◌↔◌, Result, Ok, Err, List, [], ◌∷◌, length, take, replicate}
 use Rattle.std.proofs.Common.{arith, ap, ◌∙◌, length-append, drop_at, le-leb}
 use Rattle.std.proofs.Math.Decide.{dec_le}
 use Rattle.std.proofs.lemmas.List.{take-append-le}
@@ -15,8 +15,8 @@ use Rattle.decorrelate.specs.Form.{form, form_words, padded, form_room}
 use Rattle.decorrelate.specs.AgreeLaws.{empty-form}
 use Rattle.decorrelate.specs.FormLaws.{form_words-length, form_search}
 use Rattle.decorrelate.specs.RoomLaws.{padded_size, padded_start}
-use Rattle.acceptance.specs.declared.Acceptance.{Acceptance}
-use Rattle.acceptance.specs.declared.Acceptance.TheVariants.{Accepted, Refused, TooLarge}
+use Rattle.acceptance.specs.declared.AcceptError.{AcceptError}
+use Rattle.acceptance.specs.declared.AcceptError.TheVariants.{TooLarge}
 use Rattle.acceptance.specs.Spd.{held_words, spd_words, no_rules, accepting, if_accepted, spd_after}
 use Rattle.spd.specs.Words.{spd_size, address_of, rows_of, rows_at}
 
@@ -75,13 +75,13 @@ module _ (capacity address : ℕ) (rs : Rules) (w : Within capacity rs) where
   spd_search d vs ok = rw (spd_rows d) (form_search d rs d vs ok)
 
 -- A policy of these rows is accepted exactly where both normal forms are within the limit.
-pub accepted_exactly : (limit : ℕ) (rs : Rules) → (accepting limit (rows rs) ≡ Accepted) ↔ Within limit rs
+pub accepted_exactly : (limit : ℕ) (rs : Rules) → (accepting limit (rows rs) ≡ Ok tt) ↔ Within limit rs
 accepted_exactly limit rs = by (dec_le (length (form Out rs)) limit) (dec_le (length (form In rs)) limit)
   where
-    refused_as : (d : Direction) → TooLarge d ≡ Accepted → ⊥
+    refused_as : (d : Direction) → ◌≡◌ {A = Result Unit AcceptError} (Err (TooLarge d)) (Ok tt) → ⊥
     refused_as d e = let z : ◌≡◌ {A = ℕ} 0 1 = cc in omega arith
 
-    by : Dec (length (form Out rs) ≤ limit) → Dec (length (form In rs) ≤ limit) → (accepting limit (rows rs) ≡ Accepted) ↔ Within limit rs
+    by : Dec (length (form Out rs) ≤ limit) → Dec (length (form In rs) ≤ limit) → (accepting limit (rows rs) ≡ Ok tt) ↔ Within limit rs
     by (yes g) (yes h) =
         (λ e. record { out_within = g; in_within = h }, λ w. rw (le-leb (length (form Out rs)) limit g, le-leb (length (form In rs)) limit h))
     by (yes g) (no h) = (
@@ -95,7 +95,6 @@ pub address_kept : (capacity limit : ℕ) (ws : List ℕ) (p : Policy) → addre
 address_kept capacity limit ws (refused p) = refl
 address_kept capacity limit ws (rows rs) = by (accepting limit (rows rs))
   where
-    by : (a : Acceptance) → address_of (if_accepted a (spd_words capacity (address_of ws) rs) ws) ≡ address_of ws
-    by Accepted = refl
-    by (Refused r) = refl
-    by (TooLarge d) = refl
+    by : (a : Result Unit AcceptError) → address_of (if_accepted a (spd_words capacity (address_of ws) rs) ws) ≡ address_of ws
+    by (Ok u) = refl
+    by (Err e) = refl

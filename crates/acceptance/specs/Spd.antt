@@ -1,15 +1,14 @@
 -- The words of a gateway that holds a policy, and policy acceptance (document 01; docs/RULES.md, 'The order of checks'). Assumes nothing: these are definitions.
-use Rattle.std.specs.Prelude.{ℕ, cond, List, [], ◌∷◌, ◌++◌, leb, length}
+use Rattle.std.specs.Prelude.{ℕ, Result, Ok, Err, cond, List, [], ◌∷◌, ◌++◌, leb, length}
 use Rattle.selectors.specs.declared.Direction.TheVariants.{Out, In}
 use Rattle.policy_text.specs.declared.Edition.TheVariants.{One}
 use Rattle.policy_text.specs.Editions.{Rules, rules, Policy, refused, rows, refusal_number, refusal_carries}
 use Rattle.decorrelate.specs.Form.{form, form_room, direction_number}
 use Rattle.spd_cache.specs.Cache.{empty_cache}
 use Rattle.spd.specs.Words.{address_of}
-use Rattle.acceptance.specs.declared.Acceptance.{Acceptance}
-use Rattle.acceptance.specs.declared.Acceptance.TheVariants.{Accepted, Refused, TooLarge}
+use Rattle.acceptance.specs.declared.AcceptError.{AcceptError}
+use Rattle.acceptance.specs.declared.AcceptError.TheVariants.{Refused, TooLarge}
 use Rattle.acceptance.specs.declared.Caches.{Caches}
-use Rattle.acceptance.specs.declared.Settled.{Settled}
 
 -- The words of a gateway with this address: the counts of the rows for out and for in, and a room for the rows of each.
 abbrev pub held_words : ℕ → ℕ → List ℕ → ℕ → List ℕ → List ℕ
@@ -26,18 +25,17 @@ abbrev pub no_rules : Rules
 no_rules = rules One []
 
 -- 'A policy is checked in the order 23, 24, 21, 20 (first bad row), 22', and 22 has the 'way, out tried first'.
-abbrev pub accepting : ℕ → Policy → Acceptance
-accepting limit (refused r) = Refused r
+abbrev pub accepting : ℕ → Policy → Result Unit AcceptError
+accepting limit (refused r) = Err (Refused r)
 accepting limit (rows rs) =
     cond (leb (length (form Out rs)) limit)
-    (cond (leb (length (form In rs)) limit) Accepted (TooLarge In))
-    (TooLarge Out)
+    (cond (leb (length (form In rs)) limit) (Ok tt) (Err (TooLarge In)))
+    (Err (TooLarge Out))
 
 -- 'Answers 10 and up for a policy … change nothing lent.'
-abbrev pub if_accepted : {A : Type 0} → Acceptance → A → A → A
-if_accepted Accepted new old = new
-if_accepted (Refused r) new old = old
-if_accepted (TooLarge d) new old = old
+abbrev pub if_accepted : {A : Type 0} → Result Unit AcceptError → A → A → A
+if_accepted (Ok u) new old = new
+if_accepted (Err e) new old = old
 
 -- The words after a policy file. The address is 'never changed'.
 abbrev pub spd_after : ℕ → ℕ → List ℕ → Policy → List ℕ
@@ -52,20 +50,13 @@ empty_caches = record { outbound = empty_cache; inbound = empty_cache }
 abbrev pub caches_after : ℕ → Caches → Policy → Caches
 caches_after limit c p = if_accepted (accepting limit p) empty_caches c
 
--- What a policy file is answered with: the answer, and the caches after it.
-abbrev pub answer : Acceptance → Caches → Settled
-answer a c = record { acceptance = a; caches = c }
-
-abbrev pub settled : ℕ → Caches → Policy → Settled
-settled limit c p = answer (accepting limit p) (caches_after limit c p)
-
 -- Document 01's numbers, and what they carry: what a refusal carries, or the way.
-abbrev pub acceptance_number : Acceptance → ℕ
-acceptance_number Accepted = 5
-acceptance_number (Refused r) = refusal_number r
-acceptance_number (TooLarge d) = 22
+abbrev pub acceptance_number : Result Unit AcceptError → ℕ
+acceptance_number (Ok u) = 5
+acceptance_number (Err (Refused r)) = refusal_number r
+acceptance_number (Err (TooLarge d)) = 22
 
-abbrev pub acceptance_carries : Acceptance → ℕ
-acceptance_carries Accepted = 0
-acceptance_carries (Refused r) = refusal_carries r
-acceptance_carries (TooLarge d) = direction_number d
+abbrev pub acceptance_carries : Result Unit AcceptError → ℕ
+acceptance_carries (Ok u) = 0
+acceptance_carries (Err (Refused r)) = refusal_carries r
+acceptance_carries (Err (TooLarge d)) = direction_number d

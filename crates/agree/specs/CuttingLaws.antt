@@ -1,6 +1,11 @@
 -- Laws of the rows that may part two values of a field: how they are listed, and why they are enough. Assumes nothing.
-use Rattle.std.specs.Prelude.{ℕ, suc, ◌+◌, ◌≤◌, ◌<◌, ◌≡◌, Bool, ◌⊎◌, length, get_or, set, take}
-use Rattle.std.proofs.Common.{arith, sym, ◌∙◌, inl, inr, length-set, get_or-set_same, get_or-set_other, length-take-le, get_or-take, below_more}
+use Rattle.std.specs.Prelude.{ℕ, zero, suc, ◌+◌, ◌≤◌, ◌<◌, ◌≡◌, Bool, ◌⊎◌, ◌++◌, length, get_or}
+use Rattle.std.specs.List.{filter}
+use Rattle.std.proofs.Common.{arith, sym, ◌∙◌, inl, inr, below_more}
+use Rattle.std.proofs.Math.ListN.{get_or-append}
+use Rattle.std.proofs.Math.Seq.{get_or-append_seam}
+use Rattle.std.proofs.lemmas.List.{length-append}
+use Rattle.std.proofs.lemmas.Bool.{false≢true}
 use Rattle.std.proofs.Math.Path.{refl}
 use Rattle.std.proofs.Math.Bool.{true, false, cond}
 use mathlib.Core.List.{List, [], ◌∷◌, map}
@@ -13,8 +18,7 @@ use Rattle.selectors.specs.Words.{field_count}
 use Rattle.normal_form.specs.Search.{Row, find}
 use Rattle.policy.specs.Words.{row_limit}
 use Rattle.cover.specs.Boxes.{ranges_word, RowsApart}
-use Rattle.agree.specs.Sides.{action_in, does_act, row_behind, range_of, Takes, Early, Cutting}
-use Rattle.agree.specs.TakesLaws.{takes_each}
+use Rattle.agree.specs.Sides.{action_in, does_act, row_behind, range_of, Early, Cutting}
 
 -- The first of two rows that hold values or not, with what is found behind them.
 first_like : (l a b : ℕ) (p q : Bool) (P Q : Type 0) → (p ≡ q) ⊎ ((l ≡ 0) × ((p ≡ true → Q) × (q ≡ true → P))) → a ≡ b → (P → a ≡ 0) → (Q → b ≡ 0)
@@ -88,79 +92,75 @@ held_like : (ws : List ℕ) (x f u v : ℕ) (us : List ℕ) → f < field_count 
 unfolding holds
 held_like ws x f u v us h e = rw (ranges-next ws (ranges_word x) f field_count h, e)
 
--- The first n numbers of a list are some of the first i of another, and of these are all that are not spare.
-pub record Chosen (spare : ℕ → Type 0) (list : List ℕ) (i : ℕ) (cuts : List ℕ) (n : ℕ) : Type 0 where
-  pub sized : length cuts ≡ row_limit
-  pub fits : n ≤ row_limit
-  pub among : (k : ℕ) → k < n → Early list i (get_or cuts k 0)
-  pub rest : (j : ℕ) → j < i → Early cuts n (get_or list j 0) ⊎ spare (get_or list j 0)
+-- The numbers of a list are some of the first i of another, and of these are all that are not spare.
+pub record Chosen (spare : ℕ → Type 0) (list : List ℕ) (i : ℕ) (cuts : List ℕ) : Type 0 where
+  pub fits : length cuts ≤ i
+  pub among : (k : ℕ) → k < length cuts → Early list i (get_or cuts k 0)
+  pub rest : (j : ℕ) → j < i → Early cuts (length cuts) (get_or list j 0) ⊎ spare (get_or list j 0)
 
 module _ (spare : ℕ → Type 0) (list : List ℕ) where
-  pub chosen_none : (cuts : List ℕ) → length cuts ≡ row_limit → Chosen spare list 0 cuts 0
-  chosen_none cuts e = record { sized = e; fits = omega arith; among = λ k h. absurd (omega arith); rest = λ j h. absurd (omega arith) }
+  pub chosen_none : Chosen spare list 0 []
+  chosen_none = record { fits = omega arith; among = λ k h. absurd (omega arith); rest = λ j h. absurd (omega arith) }
 
-  -- The next number written behind the others: kept, or passed over.
-  module _ (i : ℕ) (cuts : List ℕ) (n : ℕ) (h : n < row_limit) (t : Chosen spare list i cuts n) where
+  -- The next number: behind the others, or passed over.
+  module _ (i : ℕ) (cuts : List ℕ) (t : Chosen spare list i cuts) where
     abbrev next : List ℕ
-    next = set cuts n (get_or list i 0)
+    next = cuts ++ get_or list i 0 ∷ []
 
-    old-among : (k : ℕ) → k < n → Early list (i + 1) (get_or next k 0)
-    old-among k l =
-        let o = t.among k l in
-        record { place = o.place; below = omega (arith, o.below); same = get_or-set_other cuts n k _ 0 (λ e. omega arith) ∙ o.same }
+    later : (x : ℕ) → Early list i x → Early list (i + 1) x
+    later x o = record { place = o.place; below = omega (arith, o.below); same = o.same }
 
-    old_rest : (m : ℕ) → n ≤ m → (j : ℕ) → j < i → Early next m (get_or list j 0) ⊎ spare (get_or list j 0)
-    old_rest m g j l =
-        ⊎_elim (λ (o : Early cuts n (get_or list j 0)). inl record {
-          place = o.place;
-          below = omega (arith, o.below);
-          same = o.same ∙ sym (get_or-set_other cuts n o.place _ 0 (λ e. omega (arith, o.below)));
-        }) (λ s. inr s) (t.rest j l)
+    kept : (x : ℕ) → Early cuts (length cuts) x → Early next (length cuts + 1) x
+    kept x o = record { place = o.place; below = omega (arith, o.below); same = o.same ∙ sym (get_or-append cuts _ 0 o.place o.below) }
 
-    chosen_kept : Chosen spare list (i + 1) next (n + 1)
+    pub chosen_kept : Chosen spare list (i + 1) next
     chosen_kept =
-        let e : get_or next n 0 ≡ get_or list i 0 = get_or-set_same cuts n _ 0 (omega (arith, t.sized)) in
+        let e : get_or next (length cuts) 0 ≡ get_or list i 0 = get_or-append_seam cuts _ [] 0 in
+        let n : length next ≡ length cuts + 1 = length-append cuts (get_or list i 0 ∷ []) in
         record {
-          sized = length-set cuts n _ ∙ t.sized;
-          fits = omega arith;
-          among = below_more _ _ old-among record { place = i; below = omega arith; same = e };
-          rest = below_more _ _ (old_rest (n + 1) (omega arith)) (inl record { place = n; below = omega arith; same = sym e });
+          fits = omega (arith, t.fits);
+          among = rw n (below_more _ _ (λ k h. rw (get_or-append cuts (get_or list i 0 ∷ []) 0 k h) (later _ (t.among k h))) record { place = i; below = omega arith; same = e });
+          rest = rw n (below_more _ _ (λ j h. ⊎_elim (λ o. inl (kept _ o)) (λ s. inr s) (t.rest j h)) (inl record { place = length cuts; below = omega arith; same = sym e }));
         }
 
-    chosen_passed : spare (get_or list i 0) → Chosen spare list (i + 1) next n
+    pub chosen_passed : spare (get_or list i 0) → Chosen spare list (i + 1) cuts
     chosen_passed s = record {
-      sized = length-set cuts n _ ∙ t.sized;
-      fits = omega arith;
-      among = old-among;
-      rest = below_more _ _ (old_rest n (omega arith)) (inr s);
+      fits = omega (arith, t.fits);
+      among = λ k h. later _ (t.among k h);
+      rest = below_more _ _ t.rest (inr s);
     }
 
-    pub chosen-next : (n' : ℕ) → (n' ≡ n + 1) ⊎ (spare (get_or list i 0) × (n' ≡ n)) → Chosen spare list (i + 1) next n'
-    chosen-next n' o = ⊎_elim (λ e. rw e chosen_kept) (λ w. rw w.1 (chosen_passed w.0)) o
+-- What is true of each number that a test takes is true of each for which the test is.
+filter_each : (p : ℕ → Bool) (Q : ℕ → Type 0) (xs : List ℕ) → ((k : ℕ) → k < length (filter p xs) → Q (get_or (filter p xs) k 0))
+    → (j : ℕ) → j < length xs → p (get_or xs j 0) ≡ true → Q (get_or xs j 0)
+filter_each p Q [] q j h e = absurd (omega arith)
+filter_each p Q (x ∷ xs) q j h e = by (p x) refl (filter p xs) q (filter_each p Q xs) j h e
+  where
+    by : (b : Bool) → p x ≡ b → (ys : List ℕ) → ((k : ℕ) → k < length (cond (p x) (x ∷ ys) ys) → Q (get_or (cond (p x) (x ∷ ys) ys) k 0))
+        → (((k : ℕ) → k < length ys → Q (get_or ys k 0)) → (j : ℕ) → j < length xs → p (get_or xs j 0) ≡ true → Q (get_or xs j 0))
+        → (j : ℕ) → j < length (x ∷ xs) → p (get_or (x ∷ xs) j 0) ≡ true → Q (get_or (x ∷ xs) j 0)
+    by true a ys all ih zero h e = (rw a at all) 0 (omega arith)
+    by true a ys all ih (suc j) h e = let each = rw a at all in ih (λ k m. each (suc k) (omega arith)) j (omega arith) e
+    by false a ys all ih zero h e = absurd (false≢true (sym a ∙ e))
+    by false a ys all ih (suc j) h e = ih (rw a at all) j (omega arith) e
 
 -- The rows that are not spare are enough.
-module _ (ws : List ℕ) (f : ℕ) (actors : List ℕ) (count : ℕ) where
+module _ (ws : List ℕ) (f : ℕ) (actors : List ℕ) where
   -- A row that discards and is apart from the listed ones.
   abbrev pub Idle : ℕ → Type 0
-  Idle x = (action_in ws x ≡ 0) × ((k : ℕ) → k < count → RowsApart ws x (get_or actors k 0) f)
+  Idle x = (action_in ws x ≡ 0) × ((k : ℕ) → k < length actors → RowsApart ws x (get_or actors k 0) f)
 
-  pub cutting_of : (list : List ℕ) (total : ℕ) (cuts : List ℕ) (n : ℕ) → f < field_count → total ≤ length list
-      → Takes (λ i. does_act ws i) (take total list) actors count → Chosen Idle list total cuts n
-      → Cutting ws (take total list) f cuts n
-  cutting_of list total cuts n h g t c =
-      let size = length-take-le total list g in
-      record {
-        sized = c.sized;
-        fits = c.fits;
-        among = λ k l. let o = c.among k l in
-            record { place = o.place; below = omega (arith, o.below, size); same = o.same ∙ sym (get_or-take total list o.place 0 o.below) };
-        alike = λ u v s us. rows_like ws f (take total list) (u ∷ us) (v ∷ us) (λ j l.
-            let m : j < total = omega (arith, size) in
-            rw (get_or-take total list j 0 m) (⊎_elim (λ (o : Early cuts n (get_or list j 0)). inl (held_like ws _ f u v us h (rw o.same (s o.place o.below))))
-            (λ r. inr (r.0, takes_each _ _ actors count t (λ y. RowsApart ws (get_or list j 0) y f) r.1)) (c.rest j m)));
-      }
+  pub cutting_of : (list cuts : List ℕ) → f < field_count → length list ≤ row_limit → actors ≡ filter (λ i. does_act ws i) list → Chosen Idle list (length list) cuts
+      → Cutting ws list f cuts
+  cutting_of list cuts h g t c = record {
+    fits = omega (arith, c.fits);
+    among = c.among;
+    alike = λ u v s us. rows_like ws f list (u ∷ us) (v ∷ us) (λ j m.
+        ⊎_elim (λ (o : Early cuts (length cuts) (get_or list j 0)). inl (held_like ws _ f u v us h (rw o.same (s o.place o.below))))
+        (λ r. inr (r.0, filter_each (λ i. does_act ws i) (λ y. RowsApart ws (get_or list j 0) y f) list (rw t at r.1))) (c.rest j m));
+  }
 
 -- What is true of all places is true of those that may part values.
-pub cutting_each : (ws xs : List ℕ) (f : ℕ) (cuts : List ℕ) (n : ℕ) → Cutting ws xs f cuts n → (Q : ℕ → Type 0) → ((j : ℕ) → j < length xs → Q (get_or xs j 0))
-    → (k : ℕ) → k < n → Q (get_or cuts k 0)
-cutting_each ws xs f cuts n t Q q k h = let o = t.among k h in rw o.same (q o.place o.below)
+pub cutting_each : (ws xs : List ℕ) (f : ℕ) (cuts : List ℕ) → Cutting ws xs f cuts → (Q : ℕ → Type 0) → ((j : ℕ) → j < length xs → Q (get_or xs j 0))
+    → (k : ℕ) → k < length cuts → Q (get_or cuts k 0)
+cutting_each ws xs f cuts t Q q k h = let o = t.among k h in rw o.same (q o.place o.below)

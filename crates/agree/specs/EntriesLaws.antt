@@ -1,21 +1,22 @@
 -- Laws of entries: the rows of a list of entries on each side, what a search of these finds, and how a list of entries grows.
 -- Assumes nothing.
-use Prim.Native.Nat.{ℕ, zero, suc, ◌+◌, ◌-◌, ◌*◌, ◌/◌, ◌%◌, ◌≤◌, ◌<◌}
+use Rattle.std.specs.Prelude.{ℕ, zero, suc, ◌+◌, ◌-◌, ◌*◌, ◌/◌, ◌%◌, ◌≤◌, ◌<◌, ◌≡◌, refl, Bool, true, false, cond, List, [], ◌∷◌, ◌++◌, map, length, get_or, take, drop, Some, None}
+use Rattle.std.specs.List.{filter}
 use native.Mathlib.Omega.{arith}
-use Rattle.std.proofs.Common.{add-zero, add_assoc, add-one, ◌∙◌, ap, inl, inr, ⊎_elim, lit<, get_or-set_same, get_or-set_other, take-suc, lt-ltb, le-ltb, eq-eqb, ne_eqb}
-use Rattle.std.proofs.Math.Path.{◌≡◌, refl, sym}
-use Rattle.std.specs.Prelude.{Bool, ◌⊎◌, length, get_or, set, take}
-use Rattle.std.proofs.Math.Bool.{true, false, cond}
-use mathlib.Core.List.{List, [], ◌∷◌, ◌++◌, map, append-nil}
+use Rattle.std.proofs.Common.{add_assoc, add-one, ◌∙◌, ap, sym, lit<, take-suc, lt-ltb, le-ltb, eq-eqb, ne_eqb, append-nil}
+use Rattle.std.proofs.Math.Seq.{drop-cons}
+use Rattle.std.proofs.lemmas.List.{drop_all, map-append, length-append}
+use Rattle.std.proofs.lemmas.List.Elements.{filter-append}
 use Rattle.selectors.specs.Range.{Range, contains, holds}
 use Rattle.selectors.specs.Ranges.{ends_range}
 use Rattle.selectors.specs.Words.{field_count, ends_at, range_at}
 use Rattle.selectors.specs.declared.Ends.{Ends}
 use Rattle.normal_form.specs.Search.{Row, find}
 use Rattle.policy.specs.Words.{row_words, row_limit}
-use Rattle.cover.specs.Boxes.{ranges_word, row_of, table_of, code_holds}
+use Rattle.cover.specs.Boxes.{ranges_word, row_of, in_second, table_of, code_holds}
 use Rattle.cover.specs.RangesLaws.{ranges_moved}
-use Rattle.agree.specs.Sides.{row_behind, Alike, those, on_side, code_action, Sides, sides, on_at, action_at, holds_at, on, first_of, side_action, Agreed, sides_of, side_rows, SideRows, Next}
+use Rattle.agree.specs.Sides.{row_behind, Alike, on_side, code_action, Sides, sides, on_at, action_at, holds_at, on, first_of, side_action, Agreed, sides_of, side_rows, SideRows, Next}
+use Rattle.agree.specs.declared.Side.TheVariants.{First, Second}
 
 -- A row from any field on is what its words from the action on are.
 pub row_same : (first second : List ℕ) (a b : ℕ)
@@ -28,31 +29,16 @@ row_same first second a b same f =
           (λ k p q. rw (add_assoc (a * row_words) 2 k, add_assoc (b * row_words) 2 k) (same (2 + k) (omega arith) (omega arith))),
     )
 
--- Lists with more at the end.
-module _ {A : Type 0} where
-  head-append : (b : Bool) (x : A) (xs ys zs : List A) → zs ≡ xs ++ ys → cond b (x ∷ zs) zs ≡ cond b (x ∷ xs) xs ++ ys
-  head-append true x xs ys zs e = ap (x ∷◌) e
-  head-append false x xs ys zs e = e
-
-map-append : (g : ℕ → Row ℕ) (xs ys : List ℕ) → map g (xs ++ ys) ≡ map g xs ++ map g ys
-map-append g [] ys = refl
-map-append g (x ∷ xs) ys = ap (g x ∷◌) (map-append g xs ys)
-
-pub those-append : (p : ℕ → Bool) (xs ys : List ℕ) → those p (xs ++ ys) ≡ those p xs ++ those p ys
-unfolding those
-those-append p [] ys = refl
-those-append p (x ∷ xs) ys = head-append (p x) x (those p xs) (those p ys) (those p (xs ++ ys)) (those-append p xs ys)
-
 pub take_more : (xs : List ℕ) (i : ℕ) → i < length xs → take (i + 1) xs ≡ take i xs ++ get_or xs i 0 ∷ []
 take_more xs i h = rw add-one (take-suc xs i 0 h)
 
-take_same : (xs : List ℕ) (i : ℕ) → take (i + 0) xs ≡ take i xs ++ []
-take_same xs i = rw (add-zero, append-nil)
+filtered : (p : ℕ → Bool) (xs : List ℕ) (i : ℕ) → i < length xs → filter p (take (i + 1) xs) ≡ filter p (take i xs) ++ filter p (get_or xs i 0 ∷ [])
+filtered p xs i h = rw (take_more xs i h) (filter-append p (take i xs) (get_or xs i 0 ∷ []))
 
 -- The rows of one entry on a side: none, or its row.
 module _ (first second : List ℕ) (f : ℕ) (s : Bool) where
   abbrev rows_on_side : ℕ → List (Row ℕ)
-  rows_on_side e = cond (on_side s e) (row_behind (table_of first second e) f (row_of e) ∷ []) []
+  rows_on_side e = side_rows first second f s (e ∷ [])
 
   rows_on : (e : ℕ) (ws : List ℕ) (x : ℕ) → on_side s e ≡ true → row_behind (table_of first second e) f (row_of e) ≡ row_behind ws f x
       → rows_on_side e ≡ map (row_behind ws f) (x ∷ [])
@@ -61,47 +47,24 @@ module _ (first second : List ℕ) (f : ℕ) (s : Bool) where
   rows_off : (e : ℕ) (ws : List ℕ) → on_side s e ≡ false → rows_on_side e ≡ map (row_behind ws f) []
   rows_off e ws p = rw p
 
-  -- An entry written behind the others: its row comes behind theirs.
-  rows_kept : (es : List ℕ) (m c i n : ℕ) → i + n ≤ m → side_rows first second f s (set es m c) i n ≡ side_rows first second f s es i n
-  unfolding side_rows
-  rows_kept es m c i zero h = refl
-  rows_kept es m c i (suc n) h = rw (get_or-set_other es m i c 0 (λ e. omega arith), rows_kept es m c (suc i) n (omega arith))
+  -- An entry behind the others: its row comes behind theirs.
+  rows_more : (es : List ℕ) (e : ℕ) → side_rows first second f s (es ++ e ∷ []) ≡ side_rows first second f s es ++ rows_on_side e
+  rows_more es e =
+      ap (map (λ x. row_behind (table_of first second x) f (row_of x))) (filter-append (on_side s) es (e ∷ []))
+      ∙ map-append (λ x. row_behind (table_of first second x) f (row_of x)) (filter (on_side s) es) (filter (on_side s) (e ∷ []))
 
-  rows_last : (es : List ℕ) (i n : ℕ) → side_rows first second f s es i (suc n) ≡ side_rows first second f s es i n ++ rows_on_side (get_or es (i + n) 0)
-  unfolding side_rows
-  rows_last es i zero = let e : i + 0 ≡ i = omega arith in rw e
-  rows_last es i (suc n) =
-      let e : i + suc n ≡ suc i + n = omega arith in rw e (head-append (on_side s (get_or es i 0)) _ _ _ _ (rows_last es (suc i) n))
-
-  rows_written : (es : List ℕ) (n c : ℕ) → n < length es → side_rows first second f s (set es n c) 0 (n + 1) ≡ side_rows first second f s es 0 n ++ rows_on_side c
-  rows_written es n c h =
-      let e : 0 + n ≡ n = omega arith in
-      rw (add-one n) (rows_last (set es n c) 0 n ∙ rw (e, get_or-set_same es n c 0 h, rows_kept es n c 0 n (omega arith)))
-
--- A list of entries with one entry more, and with one that is not counted.
-module _ (first second xs ys es : List ℕ) (n : ℕ) (r : SideRows first second xs ys es n) (l : length es ≡ 2 * row_limit) (h : n < 2 * row_limit) (c : ℕ) where
+-- A list of entries with one entry more.
+module _ (first second xs ys es : List ℕ) (r : SideRows first second xs ys es) (h : length es < 2 * row_limit) (c : ℕ) where
   entry_more : (x y : List ℕ) → ((f : ℕ) → rows_on_side first second f false c ≡ map (row_behind first f) x)
-      → ((f : ℕ) → rows_on_side first second f true c ≡ map (row_behind second f) y) → SideRows first second (xs ++ x) (ys ++ y) (set es n c) (n + 1)
+      → ((f : ℕ) → rows_on_side first second f true c ≡ map (row_behind second f) y) → SideRows first second (xs ++ x) (ys ++ y) (es ++ c ∷ [])
   entry_more x y a b = record {
-    fits = omega arith;
-    on_first = λ f. rows_written first second f false es n c (omega arith) ∙ rw (r.on_first f, a f) (sym (map-append (row_behind first f) xs x));
-    on_second = λ f. rows_written first second f true es n c (omega arith) ∙ rw (r.on_second f, b f) (sym (map-append (row_behind second f) ys y));
+    fits = rw (length-append es (c ∷ [])) (omega arith);
+    on_first = λ f. rows_more first second f false es c ∙ rw (r.on_first f, a f) (sym (map-append (row_behind first f) xs x));
+    on_second = λ f. rows_more first second f true es c ∙ rw (r.on_second f, b f) (sym (map-append (row_behind second f) ys y));
   }
 
-  entry_none : SideRows first second xs ys (set es n c) n
-  entry_none = record {
-    fits = r.fits;
-    on_first = λ f. rows_kept first second f false es n c 0 n (omega arith) ∙ r.on_first f;
-    on_second = λ f. rows_kept first second f true es n c 0 n (omega arith) ∙ r.on_second f;
-  }
-
-pub merge_none : (first second es : List ℕ) → SideRows first second [] [] es 0
-unfolding side_rows
-merge_none first second es = record { fits = omega arith; on_first = λ f. refl; on_second = λ f. refl }
-
-pub cut_none : (ws : List ℕ) (p q : ℕ → Bool) (es : List ℕ) → SideRows ws ws (those p []) (those q []) es 0
-unfolding those
-cut_none ws p q es = merge_none ws ws es
+pub merge_none : (first second : List ℕ) → SideRows first second [] [] []
+merge_none first second = record { fits = omega arith; on_first = λ f. refl; on_second = λ f. refl }
 
 -- The code of a row at a cut: its row, its policy, its sides.
 module _ (x : ℕ) where
@@ -132,12 +95,11 @@ module _ (ws : List ℕ) (s : Bool) (p : ℕ → Bool) (x e : ℕ) (q : row_of e
   own_table true = refl
   own_table false = refl
 
-  rows_cut : (f : ℕ) → rows_on_side ws ws f s e ≡ map (row_behind ws f) (those p (x ∷ []))
-  unfolding those
-  rows_cut f = rw (o, own_table, q) (by (p x))
+  rows_cut : (f : ℕ) → rows_on_side ws ws f s e ≡ map (row_behind ws f) (filter p (x ∷ []))
+  rows_cut f = rw o (by (p x))
     where
-      by : (b : Bool) → cond b (row_behind ws f x ∷ []) [] ≡ map (row_behind ws f) (cond b (x ∷ []) [])
-      by true = refl
+      by : (b : Bool) → map (λ i. row_behind (table_of ws ws i) f (row_of i)) (cond b (e ∷ []) []) ≡ map (row_behind ws f) (cond b (x ∷ []) [])
+      by true = rw (own_table (in_second e), q)
       by false = refl
 
 -- The sides of a row at a cut, from what was asked of its range.
@@ -154,165 +116,128 @@ sides-small r one other = by (contains r one) (contains r other)
     by false true = lit< tt
     by false false = lit< tt
 
--- The entries at a cut with one row more.
-module _ (ws : List ℕ) (r : ℕ → Range) (one other : ℕ) (xs es : List ℕ) (n : ℕ) where
-  abbrev Cut : List ℕ → List ℕ → ℕ → Type 0
-  Cut zs es' n' = SideRows ws ws (those (λ i. contains (r i) one) zs) (those (λ i. contains (r i) other) zs) es' n'
+-- The entries at a cut with one row more: of that row, or passed over.
+module _ (ws : List ℕ) (r : ℕ → Range) (one other : ℕ) (list : List ℕ) where
+  abbrev pub Cut : ℕ → List ℕ → Type 0
+  Cut i es = SideRows ws ws (filter (λ x. contains (r x) one) (take i list)) (filter (λ x. contains (r x) other) (take i list)) es
 
-  module _ (t : Cut xs es n) (l : length es ≡ 2 * row_limit) (h : n < 2 * row_limit) (x : ℕ) where
-    abbrev Next-cut : ℕ → ℕ → Type 0
-    Next-cut c n' = Cut (xs ++ x ∷ []) (set es n c) n'
+  module _ (i : ℕ) (es : List ℕ) (t : Cut i es) (h : i < length list) (c : ℕ) where
+    abbrev x : ℕ
+    x = get_or list i 0
 
-    cut_more : Next-cut (8 * x + sides_of (r x) one other) (n + 1)
-    cut_more =
-        let c = 8 * x + sides_of (r x) one other in
+    pub cut_more : length es < 2 * row_limit → c ≡ 8 * x + sides_of (r x) one other → Cut (i + 1) (es ++ c ∷ [])
+    cut_more l e =
         let q = cut-row x (contains (r x) one) (contains (r x) other) in
-        rw (those-append (λ i. contains (r i) one) xs (x ∷ []), those-append (λ i. contains (r i) other) xs (x ∷ []))
-        (entry_more ws ws _ _ es n t l h c _ _
-        (rows_cut ws false (λ i. contains (r i) one) x c q (cut_first x (contains (r x) one) (contains (r x) other)))
-        (rows_cut ws true (λ i. contains (r i) other) x c q (cut_second x (contains (r x) one) (contains (r x) other))))
+        rw (filtered (λ y. contains (r y) one) list i h, filtered (λ y. contains (r y) other) list i h, e)
+        (entry_more ws ws _ _ es t l (8 * x + sides_of (r x) one other) _ _
+        (rows_cut ws false (λ y. contains (r y) one) x _ q (cut_first x (contains (r x) one) (contains (r x) other)))
+        (rows_cut ws true (λ y. contains (r y) other) x _ q (cut_second x (contains (r x) one) (contains (r x) other))))
 
-    cut_passed : (c : ℕ) → sides_of (r x) one other ≡ 0 → Next-cut c n
-    unfolding those
-    cut_passed c e =
-        rw (those-append (λ i. contains (r i) one) xs (x ∷ []), those-append (λ i. contains (r i) other) xs (x ∷ [])) (by (contains (r x) one) (contains (r x) other) refl refl e)
+    pub cut_passed : sides_of (r x) one other ≡ 0 → Cut (i + 1) es
+    cut_passed e =
+        rw (filtered (λ y. contains (r y) one) list i h, filtered (λ y. contains (r y) other) list i h) (by (contains (r x) one) (contains (r x) other) e)
       where
-        by : (a b : Bool) → contains (r x) one ≡ a → contains (r x) other ≡ b → ◌≡◌ {A = ℕ} (cond a (cond b 3 1) (cond b 2 0)) 0
-            → SideRows ws ws (those (λ i. contains (r i) one) xs ++ cond a (x ∷ []) []) (those (λ i. contains (r i) other) xs ++ cond b (x ∷ []) []) (set es n c) n
-        by true true p q z = absurd (omega arith)
-        by true false p q z = absurd (omega arith)
-        by false true p q z = absurd (omega arith)
-        by false false p q z = simp append-nil (entry_none ws ws _ _ es n t l h c)
-
-    pub cut-next : (zs : List ℕ) → zs ≡ xs ++ x ∷ [] → (s c n' : ℕ) → s ≡ sides_of (r x) one other → c ≡ 8 * x + s
-        → ((0 < s) × (n' ≡ n + 1)) ⊎ ((s ≤ 0) × (n' ≡ n)) → Cut zs (set es n c) n'
-    cut-next zs e s c n' q k o =
-        rw e (⊎_elim (λ w. rw (w.1, k, q) cut_more) (λ w. rw w.1 (cut_passed c (omega (arith, q)))) o)
+        by : (a b : Bool) → ◌≡◌ {A = ℕ} (cond a (cond b 3 1) (cond b 2 0)) 0
+            → SideRows ws ws (filter (λ y. contains (r y) one) (take i list) ++ cond a (x ∷ []) []) (filter (λ y. contains (r y) other) (take i list) ++ cond b (x ∷ []) []) es
+        by true true z = absurd (omega arith)
+        by true false z = absurd (omega arith)
+        by false true z = absurd (omega arith)
+        by false false z = simp append-nil t
 
 -- A search of the rows of a side: what the first entry on it that holds the values gives.
-choose : (us : List ℕ) (g : ℕ → ℕ) (a : Bool) (r : Row ℕ) (rs : List (Row ℕ)) (i k : ℕ) → r.leaf ≡ g i → find 0 rs us ≡ g k
-    → find 0 (cond a (r ∷ rs) rs) us ≡ g (cond (cond a (holds r.ranges us) false) i k)
+choose : (us : List ℕ) (g : ℕ → ℕ) (h : ℕ → Row ℕ) (a : Bool) (e : ℕ) (es : List ℕ) (i k : ℕ) → (h e).leaf ≡ g i → find 0 (map h es) us ≡ g k
+    → find 0 (map h (cond a (e ∷ es) es)) us ≡ g (cond (cond a (holds (h e).ranges us) false) i k)
 unfolding find
-choose us g true r rs i k p q = by (holds r.ranges us)
+choose us g h true e es i k p q = by (holds (h e).ranges us)
   where
-    by : (b : Bool) → cond b r.leaf (find 0 rs us) ≡ g (cond b i k)
+    by : (b : Bool) → cond b (h e).leaf (find 0 (map h es) us) ≡ g (cond b i k)
     by true = p
     by false = q
-choose us g false r rs i k p q = q
+choose us g h false e es i k p q = q
 
-module _ (first second es : List ℕ) (count f : ℕ) (s : Bool) (us : List ℕ) where
+module _ (first second es : List ℕ) (f : ℕ) (s : Bool) (us : List ℕ) where
   abbrev entries : Sides
-  entries = sides first second es count f
+  entries = sides first second es (length es) f
 
-  action-in : (i : ℕ) → i < count → code_action first second (get_or es i 0) ≡ action_at entries i
+  action-in : (i : ℕ) → i < length es → code_action first second (get_or es i 0) ≡ action_at entries i
   unfolding action_at
-  action-in i h = rw (lt-ltb i count h)
+  action-in i h = rw (lt-ltb i (length es) h)
 
-  action_end : (i : ℕ) → count ≤ i → action_at entries i ≡ 0
+  action_end : (i : ℕ) → length es ≤ i → action_at entries i ≡ 0
   unfolding action_at
-  action_end i h = rw (le-ltb i count h)
+  action_end i h = rw (le-ltb i (length es) h)
 
-  asked_in : (i : ℕ) → i < count
+  asked_in : (i : ℕ) → i < length es
       → cond (on entries s i) (holds_at entries us i) false ≡ cond (on_side s (get_or es i 0)) (code_holds first second f (get_or es i 0) us) false
   unfolding on_at holds_at
-  asked_in i h = rw (lt-ltb i count h)
+  asked_in i h = rw (lt-ltb i (length es) h)
 
-  found_from : (i n : ℕ) → i + n ≡ count
-      → find 0 (side_rows first second f s es i n) us ≡ action_at entries (first_of (λ k. cond (on entries s k) (holds_at entries us k) false) i n)
-  unfolding find side_rows first_of
-  found_from i zero e = sym (action_end i (omega arith))
+  found_from : (i n : ℕ) → i + n ≡ length es
+      → find 0 (side_rows first second f s (drop i es)) us ≡ action_at entries (first_of (λ k. cond (on entries s k) (holds_at entries us k) false) i n)
+  unfolding find first_of
+  found_from i zero e = rw (drop_all i es (omega arith)) (sym (action_end i (omega arith)))
   found_from i (suc n) e =
-      rw (asked_in i (omega arith)) (choose us (action_at entries) (on_side s (get_or es i 0)) _ _ i _ (action-in i (omega arith)) (found_from (suc i) n (omega arith)))
+      rw (drop-cons es i 0 (omega arith), asked_in i (omega arith))
+      (choose us (action_at entries) (λ x. row_behind (table_of first second x) f (row_of x)) (on_side s (get_or es i 0)) (get_or es i 0) (filter (on_side s) (drop (suc i) es)) i _ (action-in i (omega arith)) (found_from (suc i) n (omega arith)))
 
-  found : find 0 (side_rows first second f s es 0 count) us ≡ side_action entries s us
-  found = found_from 0 count (omega arith)
+  found : find 0 (side_rows first second f s es) us ≡ side_action entries s us
+  found = found_from 0 (length es) (omega arith)
 
 -- Lists of rows are alike where the sides of their entries agree.
-pub alike_of : (first second xs ys es : List ℕ) (n f : ℕ) (bs : List ℕ) → SideRows first second xs ys es n → Agreed (sides first second es n f) bs
+pub alike_of : (first second xs ys es : List ℕ) (f : ℕ) (bs : List ℕ) → SideRows first second xs ys es → Agreed (sides first second es (length es) f) bs
     → Alike f bs first xs second ys
 unfolding Agreed Alike
-alike_of first second xs ys es n f bs r a us h =
+alike_of first second xs ys es f bs r a us h =
     ap (λ (rs : List (Row ℕ)). find 0 rs us) (sym (r.on_first f))
-    ∙ found first second es n f false us ∙ a us h ∙ sym (found first second es n f true us) ∙ ap (λ (rs : List (Row ℕ)). find 0 rs us) (r.on_second f)
+    ∙ found first second es f false us ∙ a us h ∙ sym (found first second es f true us) ∙ ap (λ (rs : List (Row ℕ)). find 0 rs us) (r.on_second f)
 
-pub alike_empty : (f : ℕ) (bs ws : List ℕ) (p q : ℕ → Bool) (xs : List ℕ) (n : ℕ) → n ≡ 0 → Alike f bs ws (those p (take n xs)) ws (those q (take n xs))
-unfolding Alike those
-alike_empty f bs ws p q xs n e us h = rw e
+pub alike_empty : (f : ℕ) (bs ws : List ℕ) (p q : ℕ → Bool) (xs : List ℕ) → length xs ≡ 0 → Alike f bs ws (filter p xs) ws (filter q xs)
+unfolding Alike
+alike_empty f bs ws p q [] e us h = refl
+alike_empty f bs ws p q (x ∷ xs) e us h = absurd (omega arith)
 
--- Whose row is next, and how far each list is then used.
-module _ (first xs : List ℕ) (n i : ℕ) (second ys : List ℕ) (m j : ℕ) where
-  pub next_first : i < n → Next first xs n i second ys m j 1
-  next_first h = record { known = inl refl; of-first = λ e. h; of-second = λ e. absurd (e refl); same = λ e. absurd (omega arith) }
+-- On which sides the next entry stands.
+module _ (first xs : List ℕ) (i : ℕ) (second ys : List ℕ) (j : ℕ) where
+  pub next_first : i < length xs → Next first xs i second ys j (Some First)
+  next_first h = record { of-first = λ e. h; of-second = λ e. absurd (e refl); same = λ e. cc }
 
-  pub next_second : j < m → Next first xs n i second ys m j 2
-  next_second h = record { known = inr (inl refl); of-first = λ e. absurd (e refl); of-second = λ e. h; same = λ e. absurd (omega arith) }
+  pub next_second : j < length ys → Next first xs i second ys j (Some Second)
+  next_second h = record { of-first = λ e. absurd (e refl); of-second = λ e. h; same = λ e. cc }
 
-  pub next_both : i < n → j < m → ((f : ℕ) → row_behind first f (get_or xs i 0) ≡ row_behind second f (get_or ys j 0)) → Next first xs n i second ys m j 3
-  next_both h g s = record { known = inr (inr refl); of-first = λ e. h; of-second = λ e. g; same = λ e. s }
-
-  module _ (who u v : ℕ) (t : Next first xs n i second ys m j who) where
-    pub next_known : who ≤ 3
-    next_known = ⊎_elim (λ w. omega arith) (⊎_elim (λ w. omega arith) (λ w. omega arith)) t.known
-
-    pub step_first : (who ≡ 2 → u ≡ 0) × ((who ≡ 2 → ⊥) → u ≡ 1) → i ≤ n → i + u ≤ n
-    step_first o h =
-        ⊎_elim (λ w. omega (arith, o.1 (λ z. omega arith), t.of-first (λ z. omega arith)))
-        (⊎_elim (λ w. omega (arith, o.0 w)) (λ w. omega (arith, o.1 (λ z. omega arith), t.of-first (λ z. omega arith)))) t.known
-
-    pub step_second : (who ≡ 1 → v ≡ 0) × ((who ≡ 1 → ⊥) → v ≡ 1) → j ≤ m → j + v ≤ m
-    step_second o h =
-        ⊎_elim (λ w. omega (arith, o.0 w)) (λ w. omega (arith, o.1 (λ z. ⊎_elim (λ e. omega arith) (λ e. omega arith) w), t.of-second (λ z. ⊎_elim (λ e. omega arith) (λ e. omega arith) w)))
-        t.known
-
-    pub step_some : (who ≡ 2 → u ≡ 0) × ((who ≡ 2 → ⊥) → u ≡ 1) → (who ≡ 1 → v ≡ 0) × ((who ≡ 1 → ⊥) → v ≡ 1) → 1 ≤ u + v
-    step_some o p =
-        ⊎_elim (λ w. omega (arith, o.1 (λ z. omega arith)))
-        (λ w. omega (arith, p.1 (λ z. ⊎_elim (λ e. omega arith) (λ e. omega arith) w))) t.known
+  pub next_both : i < length xs → j < length ys → ((f : ℕ) → row_behind first f (get_or xs i 0) ≡ row_behind second f (get_or ys j 0)) → Next first xs i second ys j None
+  next_both h g s = record { of-first = λ e. h; of-second = λ e. g; same = λ e. s }
 
 -- The entries of two lists with one entry more: a row of the first on the first side, of the second on the second, of both on both.
-module _ (first second xs ys es : List ℕ) (n m i j count : ℕ) (r : SideRows first second (take i xs) (take j ys) es count)
-    (l : length es ≡ 2 * row_limit) (h : count < 2 * row_limit) (in-first : n ≤ length xs) (in-second : m ≤ length ys) (who a b c u v : ℕ)
-    (t : Next first xs n i second ys m j who) (is-a : i < n → a ≡ get_or xs i 0) (is_b : j < m → b ≡ get_or ys j 0)
-    (code : (who ≡ 2 → c ≡ 8 * b + 6) × ((who ≡ 2 → ⊥) → c ≡ 8 * a + who))
-    (more-first : (who ≡ 2 → u ≡ 0) × ((who ≡ 2 → ⊥) → u ≡ 1)) (more-second : (who ≡ 1 → v ≡ 0) × ((who ≡ 1 → ⊥) → v ≡ 1)) where
-  abbrev Merged : Type 0
-  Merged = SideRows first second (take (i + u) xs) (take (j + v) ys) (set es count c) (count + 1)
+module _ (first second xs ys es : List ℕ) (i j : ℕ) (r : SideRows first second (take i xs) (take j ys) es) (h : length es < 2 * row_limit) where
+  abbrev pub Merged : ℕ → ℕ → ℕ → Type 0
+  Merged i' j' c = SideRows first second (take i' xs) (take j' ys) (es ++ c ∷ [])
 
-  row_first : (f : ℕ) → c ≡ 8 * a + who → who < 4 → i < n → row_behind (table_of first second c) f (row_of c) ≡ row_behind first f (get_or xs i 0)
-  row_first f e w g =
-      let q : row_of c ≡ get_or xs i 0 = omega (arith, is-a g) in rw (ne_eqb (c / 4 % 2) 1 (λ z. omega arith), q)
+  row_first : (f c : ℕ) (s : ℕ) → c ≡ 8 * get_or xs i 0 + s → s < 4 → row_behind (table_of first second c) f (row_of c) ≡ row_behind first f (get_or xs i 0)
+  row_first f c s e w =
+      let q : row_of c ≡ get_or xs i 0 = omega arith in rw (ne_eqb (c / 4 % 2) 1 (λ z. omega arith), q)
 
-  row_second : (f : ℕ) → c ≡ 8 * b + 6 → j < m → row_behind (table_of first second c) f (row_of c) ≡ row_behind second f (get_or ys j 0)
-  row_second f e g =
-      let q : row_of c ≡ get_or ys j 0 = omega (arith, is_b g) in rw (eq-eqb (c / 4 % 2) 1 (omega arith), q)
+  row_second : (f c : ℕ) → c ≡ 8 * get_or ys j 0 + 6 → row_behind (table_of first second c) f (row_of c) ≡ row_behind second f (get_or ys j 0)
+  row_second f c e =
+      let q : row_of c ≡ get_or ys j 0 = omega arith in rw (eq-eqb (c / 4 % 2) 1 (omega arith), q)
 
-  merge_first : who ≡ 1 → Merged
-  merge_first w =
-      let e = code.1 (λ z. omega arith) in
-      let g : i < n = t.of-first (λ z. omega arith) in
-      rw (more-first.1 (λ z. omega arith), more-second.0 w, take_more xs i (omega arith), take_same ys j)
-      (entry_more first second _ _ es count r l h c (get_or xs i 0 ∷ []) []
-      (λ f. rows_on first second f false c first (get_or xs i 0) (eq-eqb (c % 2) 1 (omega arith)) (row_first f e (omega arith) g))
+  pub merge_first : i < length xs → (c : ℕ) → c ≡ 8 * get_or xs i 0 + 1 → Merged (i + 1) j c
+  merge_first g c e =
+      rw (take_more xs i g, sym (append-nil (take j ys)))
+      (entry_more first second _ _ es r h c (get_or xs i 0 ∷ []) []
+      (λ f. rows_on first second f false c first (get_or xs i 0) (eq-eqb (c % 2) 1 (omega arith)) (row_first f c 1 e (omega arith)))
       (λ f. rows_off first second f true c second (ne_eqb (c / 2 % 2) 1 (λ z. omega arith))))
 
-  merge_second : who ≡ 2 → Merged
-  merge_second w =
-      let e = code.0 w in
-      let g : j < m = t.of-second (λ z. omega arith) in
-      rw (more-first.0 w, more-second.1 (λ z. omega arith), take_same xs i, take_more ys j (omega arith))
-      (entry_more first second _ _ es count r l h c [] (get_or ys j 0 ∷ [])
+  pub merge_second : j < length ys → (c : ℕ) → c ≡ 8 * get_or ys j 0 + 6 → Merged i (j + 1) c
+  merge_second g c e =
+      rw (take_more ys j g, sym (append-nil (take i xs)))
+      (entry_more first second _ _ es r h c [] (get_or ys j 0 ∷ [])
       (λ f. rows_off first second f false c first (ne_eqb (c % 2) 1 (λ z. omega arith)))
-      (λ f. rows_on first second f true c second (get_or ys j 0) (eq-eqb (c / 2 % 2) 1 (omega arith)) (row_second f e g)))
+      (λ f. rows_on first second f true c second (get_or ys j 0) (eq-eqb (c / 2 % 2) 1 (omega arith)) (row_second f c e)))
 
-  merge_both : who ≡ 3 → Merged
-  merge_both w =
-      let e = code.1 (λ z. omega arith) in
-      let g : i < n = t.of-first (λ z. omega arith) in
-      let g' : j < m = t.of-second (λ z. omega arith) in
-      rw (more-first.1 (λ z. omega arith), more-second.1 (λ z. omega arith), take_more xs i (omega arith), take_more ys j (omega arith))
-      (entry_more first second _ _ es count r l h c (get_or xs i 0 ∷ []) (get_or ys j 0 ∷ [])
-      (λ f. rows_on first second f false c first (get_or xs i 0) (eq-eqb (c % 2) 1 (omega arith)) (row_first f e (omega arith) g))
-      (λ f. rows_on first second f true c second (get_or ys j 0) (eq-eqb (c / 2 % 2) 1 (omega arith)) (row_first f e (omega arith) g ∙ t.same w f)))
-
-  pub merge-next : Merged
-  merge-next = ⊎_elim merge_first (⊎_elim merge_second merge_both) t.known
+  pub merge_both : i < length xs → j < length ys → ((f : ℕ) → row_behind first f (get_or xs i 0) ≡ row_behind second f (get_or ys j 0))
+      → (c : ℕ) → c ≡ 8 * get_or xs i 0 + 3 → Merged (i + 1) (j + 1) c
+  merge_both g g' same c e =
+      rw (take_more xs i g, take_more ys j g')
+      (entry_more first second _ _ es r h c (get_or xs i 0 ∷ []) (get_or ys j 0 ∷ [])
+      (λ f. rows_on first second f false c first (get_or xs i 0) (eq-eqb (c % 2) 1 (omega arith)) (row_first f c 3 e (omega arith)))
+      (λ f. rows_on first second f true c second (get_or ys j 0) (eq-eqb (c / 2 % 2) 1 (omega arith)) (row_first f c 3 e (omega arith) ∙ same f)))

@@ -1,12 +1,14 @@
 -- Two ordered lists of rows as the sides of one list of entries, and what is asked of an entry. Assumes nothing: these are definitions.
 -- An entry is the code of a row (crates/cover/specs/Boxes.antt). Behind the entries stands the end row, which is on both sides, holds
 -- everything and discards.
-use Rattle.std.specs.Prelude.{ℕ, zero, suc, ◌+◌, ◌*◌, ◌/◌, ◌%◌, ◌≤◌, ◌<◌, ◌≡◌, Bool, true, false, not, cond, List, [], ◌∷◌, map, ◌≢◌, ◌⊎◌, eqb, ltb, length, get_or, take}
+use Rattle.std.specs.Prelude.{ℕ, zero, suc, ◌+◌, ◌*◌, ◌/◌, ◌%◌, ◌≤◌, ◌<◌, ◌≡◌, Bool, true, false, not, cond, List, ◌∷◌, map, ◌≢◌, ◌⊎◌, eqb, ltb, length, get_or, filter, Option, Some, None}
 use Rattle.selectors.specs.Range.{Range, contains}
 use Rattle.selectors.specs.Words.{range_words, range_at}
 use Rattle.normal_form.specs.Search.{Row, row, find}
 use Rattle.policy.specs.Words.{row_words, row_limit}
 use Rattle.cover.specs.Boxes.{ranges_word, ranges_behind, InBox, row_of, table_of, code_holds}
+use Rattle.agree.specs.declared.Side.{Side}
+use Rattle.agree.specs.declared.Side.TheVariants.{First, Second}
 
 -- The word of the action of the row i; and whether the row does not discard.
 abbrev pub action_in : List ℕ → ℕ → ℕ
@@ -27,11 +29,6 @@ Alike f bs first xs second ys =
 -- The range of the field f in the row i.
 abbrev pub range_of : List ℕ → ℕ → ℕ → Range
 range_of ws i f = range_at ws (ranges_word i + range_words * f)
-
--- Those of the numbers for which the test is true.
-unfoldable pub those : (ℕ → Bool) → List ℕ → List ℕ
-those p [] = []
-those p (x ∷ xs) = cond (p x) (x ∷ those p xs) (those p xs)
 
 -- The row of a code is on the second side, or on the first; and the word of its action.
 abbrev pub on_side : Bool → ℕ → Bool
@@ -135,42 +132,30 @@ side_action E s us = action_at E (first_of (λ k. cond (on E s k) (holds_at E us
 unfoldable pub Agreed : Sides → List ℕ → Type 0
 Agreed E bs = (us : List ℕ) → InBox E.field bs us → side_action E false us ≡ side_action E true us
 
--- The first n places of a list are those of rows of a policy.
-pub record There (ws list : List ℕ) (n : ℕ) : Type 0 where
-  pub sized : length list ≡ row_limit
-  pub fits : n ≤ row_limit
-  pub places : (k : ℕ) → k < n → get_or list k 0 < length ws / row_words
+-- The places of a list are those of rows of a policy, at most as many as the limit.
+pub record There (ws list : List ℕ) : Type 0 where
+  pub fits : length list ≤ row_limit
+  pub places : (k : ℕ) → k < length list → get_or list k 0 < length ws / row_words
 
 -- The sides of a row at a cut, as a number.
 abbrev pub sides_of : Range → ℕ → ℕ → ℕ
 sides_of r one other = cond (contains r one) (cond (contains r other) 3 1) (cond (contains r other) 2 0)
 
--- The rows of the entries on a side, of n entries from i on.
-unfoldable pub side_rows : List ℕ → List ℕ → ℕ → Bool → List ℕ → ℕ → ℕ → List (Row ℕ)
-side_rows first second f s es i zero = []
-side_rows first second f s es i (suc n) =
-    cond (on_side s (get_or es i 0))
-    (row_behind (table_of first second (get_or es i 0)) f (row_of (get_or es i 0)) ∷ side_rows first second f s es (suc i) n)
-    (side_rows first second f s es (suc i) n)
+-- The rows of the entries on a side.
+abbrev pub side_rows : List ℕ → List ℕ → ℕ → Bool → List ℕ → List (Row ℕ)
+side_rows first second f s es = map (λ e. row_behind (table_of first second e) f (row_of e)) (filter (on_side s) es)
 
--- The rows of the first n entries are, on each side, those of a list.
-pub record SideRows (first second xs ys es : List ℕ) (n : ℕ) : Type 0 where
-  pub fits : n ≤ 2 * row_limit
-  pub on_first : (f : ℕ) → side_rows first second f false es 0 n ≡ map (row_behind first f) xs
-  pub on_second : (f : ℕ) → side_rows first second f true es 0 n ≡ map (row_behind second f) ys
+-- The rows of the entries are, on each side, those of a list.
+pub record SideRows (first second xs ys es : List ℕ) : Type 0 where
+  pub fits : length es ≤ 2 * row_limit
+  pub on_first : (f : ℕ) → side_rows first second f false es ≡ map (row_behind first f) xs
+  pub on_second : (f : ℕ) → side_rows first second f true es ≡ map (row_behind second f) ys
 
--- Whose row may be the next entry: 1 the first's, 2 the second's, 3 both's where they are the same.
-pub record Next (first xs : List ℕ) (n i : ℕ) (second ys : List ℕ) (m j r : ℕ) : Type 0 where
-  pub known : (r ≡ 1) ⊎ ((r ≡ 2) ⊎ (r ≡ 3))
-  pub of-first : r ≢ 2 → i < n
-  pub of-second : r ≢ 1 → j < m
-  pub same : r ≡ 3 → (f : ℕ) → row_behind first f (get_or xs i 0) ≡ row_behind second f (get_or ys j 0)
-
--- The first n numbers of a list are, in order, those that a test takes from other numbers.
-pub record Takes (test : ℕ → Bool) (among list : List ℕ) (n : ℕ) : Type 0 where
-  pub sized : length list ≡ row_limit
-  pub fits : n ≤ row_limit
-  pub rows : take n list ≡ those test among
+-- Whose row may be the next entry: one side's alone, or both's where they are the same.
+pub record Next (first xs : List ℕ) (i : ℕ) (second ys : List ℕ) (j : ℕ) (r : Option Side) : Type 0 where
+  pub of-first : r ≢ Some Second → i < length xs
+  pub of-second : r ≢ Some First → j < length ys
+  pub same : r ≡ None → (f : ℕ) → row_behind first f (get_or xs i 0) ≡ row_behind second f (get_or ys j 0)
 
 -- A number is one of the first n of a list; or one of the list.
 pub record Early (xs : List ℕ) (n x : ℕ) : Type 0 where
@@ -181,11 +166,10 @@ pub record Early (xs : List ℕ) (n x : ℕ) : Type 0 where
 abbrev pub OneOf : List ℕ → ℕ → Type 0
 OneOf xs x = Early xs (length xs) x
 
--- The first n numbers of a list are some of the places xs, and enough of them: two values of the field f that all of these rows treat alike get
+-- The numbers of a list are some of the places xs, and enough of them: two values of the field f that all of these rows treat alike get
 -- the same action from the rows at xs, whatever the fields behind hold.
-pub record Cutting (ws xs : List ℕ) (f : ℕ) (cuts : List ℕ) (n : ℕ) : Type 0 where
-  pub sized : length cuts ≡ row_limit
-  pub fits : n ≤ row_limit
-  pub among : (k : ℕ) → k < n → OneOf xs (get_or cuts k 0)
-  pub alike : (u v : ℕ) → ((k : ℕ) → k < n → contains (range_of ws (get_or cuts k 0) f) u ≡ contains (range_of ws (get_or cuts k 0) f) v) → (us : List ℕ)
+pub record Cutting (ws xs : List ℕ) (f : ℕ) (cuts : List ℕ) : Type 0 where
+  pub fits : length cuts ≤ row_limit
+  pub among : (k : ℕ) → k < length cuts → OneOf xs (get_or cuts k 0)
+  pub alike : (u v : ℕ) → ((k : ℕ) → k < length cuts → contains (range_of ws (get_or cuts k 0) f) u ≡ contains (range_of ws (get_or cuts k 0) f) v) → (us : List ℕ)
       → find 0 (map (row_behind ws f) xs) (u ∷ us) ≡ find 0 (map (row_behind ws f) xs) (v ∷ us)

@@ -3,8 +3,8 @@ ghost use Rattle.std.specs.Prelude.{◌≡◌, Bool, true, false, not, cond, suc
 ghost use Rattle.policy.specs.Words.{row_limit};
 ghost use Rattle.agree.specs.Sides.{on_side, sides, action_at, Earlier, Before, Hidden, Passed, Ended, Peace, Harmless, Agreed};
 
+use crate::Asked;
 use crate::entries::{entry_action, entry_apart, entry_common, entry_covers, entry_on, on};
-use crate::{Asked, FIRST, SECOND};
 use cover::{Bounds, Known, MOST, apart_from, covered};
 use selectors::words::RANGES_WORDS;
 
@@ -17,6 +17,10 @@ const PASSED: u64 = 0;
 const CONFLICT: u64 = 1;
 
 const ENDED: u64 = 2;
+
+const FIRST: u64 = 1;
+
+const SECOND: u64 = 2;
 
 // Whether an entry comes before the row asked about on its side, or is on the other side.
 fn comes_first(code: u32, asked: Asked, j: usize) -> bool
@@ -36,13 +40,13 @@ fn comes_first(code: u32, asked: Asked, j: usize) -> bool
 fn before(
     first: &[u64],
     second: &[u64],
-    entries: &[u32; MOST],
+    entries: &[u32],
     asked: Asked,
     k: usize,
     bounds: &[u64; RANGES_WORDS],
     list: &mut [u32; MOST],
 ) -> usize
-    requires k_le_count { (k ≤ asked.count) × (asked.count ≤ 2 * row_limit) }
+    requires k_le_count { (k ≤ length entries.now) × (length entries.now ≤ 2 * row_limit) }
     requires list_len { length list.old ≡ 2 * row_limit }
     ensures { Before entries.now asked.second asked.row k list.new result }
 {
@@ -66,14 +70,14 @@ fn before(
 fn hidden(
     first: &[u64],
     second: &[u64],
-    entries: &[u32; MOST],
+    entries: &[u32],
     asked: Asked,
     k: usize,
     bounds: Bounds,
     parts: usize,
 ) -> Known
-    requires { (k ≤ asked.count) × (asked.count ≤ 2 * row_limit) }
-    ensures { (result.left ≤ parts) × (result.yes ≡ true → Hidden (sides first.now second.now entries.now asked.count asked.field) asked.second asked.row k bounds.words) }
+    requires { (k ≤ length entries.now) × (length entries.now ≤ 2 * row_limit) }
+    ensures { (result.left ≤ parts) × (result.yes ≡ true → Hidden (sides first.now second.now entries.now (length entries.now) asked.field) asked.second asked.row k bounds.words) }
 {
     let mut list = [0u32; MOST];
     let words = bounds.words;
@@ -86,30 +90,30 @@ fn hidden(
 fn step(
     first: &[u64],
     second: &[u64],
-    entries: &[u32; MOST],
+    entries: &[u32],
     asked: Asked,
     action: u64,
     k: usize,
     bounds: &[u64; RANGES_WORDS],
 ) -> u64
-    requires count_bound { asked.count ≤ 2 * row_limit }
-    requires action_value { action ≡ action_at (sides first.now second.now entries.now asked.count 0) asked.row }
+    requires count_bound { length entries.now ≤ 2 * row_limit }
+    requires action_value { action ≡ action_at (sides first.now second.now entries.now (length entries.now) 0) asked.row }
     ensures upper_bound { result ≤ 2 }
-    ensures passed { result ≡ 0 → Passed (sides first.now second.now entries.now asked.count asked.field) asked.second asked.row k bounds.now }
-    ensures ended { result ≡ 2 → Ended (sides first.now second.now entries.now asked.count asked.field) asked.second asked.row k bounds.now }
+    ensures passed { result ≡ 0 → Passed (sides first.now second.now entries.now (length entries.now) asked.field) asked.second asked.row k bounds.now }
+    ensures ended { result ≡ 2 → Ended (sides first.now second.now entries.now (length entries.now) asked.field) asked.second asked.row k bounds.now }
 {
-    let count = asked.count;
-    if !entry_on(entries, count, k, !asked.second) {
+    let count = entries.len();
+    if !entry_on(entries, k, !asked.second) {
         return PASSED;
     }
     let field = asked.field;
-    if entry_action(first, second, entries, count, k) == action {
-        if entry_covers(first, second, entries, count, k, field, bounds) {
+    if entry_action(first, second, entries, k) == action {
+        if entry_covers(first, second, entries, k, field, bounds) {
             return ENDED;
         }
         return PASSED;
     }
-    if entry_apart(first, second, entries, count, k, field, bounds) {
+    if entry_apart(first, second, entries, k, field, bounds) {
         return PASSED;
     }
     CONFLICT
@@ -119,16 +123,16 @@ fn step(
 fn conflict(
     first: &[u64],
     second: &[u64],
-    entries: &[u32; MOST],
+    entries: &[u32],
     asked: Asked,
     from: usize,
     bounds: &[u64; RANGES_WORDS],
 ) -> usize
-    requires { asked.count ≤ 2 * row_limit }
-    ensures { (from ≤ result) × Peace (sides first.now second.now entries.now asked.count asked.field) asked.second asked.row from result bounds.now }
+    requires { length entries.now ≤ 2 * row_limit }
+    ensures { (from ≤ result) × Peace (sides first.now second.now entries.now (length entries.now) asked.field) asked.second asked.row from result bounds.now }
 {
-    let count = asked.count;
-    let action = entry_action(first, second, entries, count, asked.row);
+    let count = entries.len();
+    let action = entry_action(first, second, entries, asked.row);
     let mut k = from;
     while k <= count {
         let found = step(first, second, entries, asked, action, k, bounds);
@@ -147,17 +151,17 @@ fn conflict(
 fn after(
     first: &[u64],
     second: &[u64],
-    entries: &[u32; MOST],
+    entries: &[u32],
     asked: Asked,
     k: usize,
     bounds: &[u64; RANGES_WORDS],
 ) -> usize
-    requires { (k ≤ asked.count) × (asked.count ≤ 2 * row_limit) }
-    ensures { (suc k ≤ result) × Peace (sides first.now second.now entries.now asked.count asked.field) asked.second asked.row (suc k) result bounds.now }
+    requires { (k ≤ length entries.now) × (length entries.now ≤ 2 * row_limit) }
+    ensures { (suc k ≤ result) × Peace (sides first.now second.now entries.now (length entries.now) asked.field) asked.second asked.row (suc k) result bounds.now }
 {
-    let count = asked.count;
-    if entry_on(entries, count, k, !asked.second) {
-        if entry_covers(first, second, entries, count, k, asked.field, bounds) {
+    let count = entries.len();
+    if entry_on(entries, k, !asked.second) {
+        if entry_covers(first, second, entries, k, asked.field, bounds) {
             return count + 1;
         }
     }
@@ -168,22 +172,22 @@ fn after(
 fn conflicts_hidden(
     first: &[u64],
     second: &[u64],
-    entries: &[u32; MOST],
+    entries: &[u32],
     asked: Asked,
     from: usize,
     bounds: Bounds,
     parts: usize,
 ) -> Known
-    requires { asked.count ≤ 2 * row_limit }
-    ensures { (result.left ≤ parts) × (result.yes ≡ true → Peace (sides first.now second.now entries.now asked.count asked.field) asked.second asked.row from (suc asked.count) bounds.words) }
+    requires { length entries.now ≤ 2 * row_limit }
+    ensures { (result.left ≤ parts) × (result.yes ≡ true → Peace (sides first.now second.now entries.now (length entries.now) asked.field) asked.second asked.row from (suc (length entries.now)) bounds.words) }
 {
-    let count = asked.count;
+    let count = entries.len();
     let field = asked.field;
     let words = bounds.words;
     let mut left = parts;
     let mut k = from;
     while k <= count {
-        let shared = entry_common(first, second, entries, count, k, field, bounds);
+        let shared = entry_common(first, second, entries, k, field, bounds);
         let known = hidden(first, second, entries, asked, k, shared, left);
         left = known.left;
         if !known.yes {
@@ -199,17 +203,17 @@ fn conflicts_hidden(
 fn harmless(
     first: &[u64],
     second: &[u64],
-    entries: &[u32; MOST],
+    entries: &[u32],
     asked: Asked,
     bounds: Bounds,
     parts: usize,
 ) -> Known
-    requires { (asked.row < asked.count) × (asked.count ≤ 2 * row_limit) }
-    ensures { (result.left ≤ parts) × (result.yes ≡ true → Harmless (sides first.now second.now entries.now asked.count asked.field) asked.second asked.row bounds.words) }
+    requires { (asked.row < length entries.now) × (length entries.now ≤ 2 * row_limit) }
+    ensures { (result.left ≤ parts) × (result.yes ≡ true → Harmless (sides first.now second.now entries.now (length entries.now) asked.field) asked.second asked.row bounds.words) }
 {
-    let count = asked.count;
+    let count = entries.len();
     let row = asked.row;
-    let own = entry_common(first, second, entries, count, row, asked.field, bounds);
+    let own = entry_common(first, second, entries, row, asked.field, bounds);
     let words = own.words;
     let k = conflict(first, second, entries, asked, row + 1, &words);
     if count < k {
@@ -243,21 +247,19 @@ fn lone(code: u32) -> u64
 pub(crate) fn agreed(
     first: &[u64],
     second: &[u64],
-    entries: &[u32; MOST],
-    count: usize,
+    entries: &[u32],
     field: usize,
     bounds: Bounds,
 ) -> bool
-    requires { count ≤ 2 * row_limit }
-    ensures { result ≡ true → Agreed (sides first.now second.now entries.now count field) bounds.words }
+    requires { length entries.now ≤ 2 * row_limit }
+    ensures { result ≡ true → Agreed (sides first.now second.now entries.now (length entries.now) field) bounds.words }
 {
     let mut left = PARTS;
     let mut row: usize = 0;
-    while row < count {
+    while row < entries.len() {
         let side = lone(entries[row]);
         if 0 < side {
             let asked = Asked {
-                count,
                 field,
                 second: side == SECOND,
                 row,

@@ -1,9 +1,8 @@
 // Entries, rows of two policies with the end row behind them: the sides that they are on, their actions, how they stand to a box.
-ghost use Rattle.std.specs.Prelude.{◌≡◌, true, ◌*◌, ◌≤◌, ◌<◌};
-ghost use Rattle.policy.specs.Words.{row_limit};
+ghost use Rattle.std.specs.Prelude.{◌≡◌, true, ◌*◌, ◌+◌, ◌<◌, length};
 ghost use Rattle.agree.specs.Sides.{action_in, on_side, code_action, sides, on_at, action_at, EntryApart, EntryCovers, EntryCommon};
 
-use cover::{Bounds, MOST, apart_from, common, covers, in_second, row_of};
+use cover::{Bounds, apart_from, common, covers, in_second, row_of};
 use policy::ROW_WORDS;
 use selectors::words::RANGES_WORDS;
 
@@ -38,27 +37,19 @@ fn code_action(first: &[u64], second: &[u64], code: u32) -> u64
     action_in(first, row_of(code))
 }
 
-pub(crate) fn entry_on(entries: &[u32; MOST], count: usize, k: usize, second: bool) -> bool
-    requires { count ≤ 2 * row_limit }
-    ensures { result ≡ on_at entries.now count second k }
+pub(crate) fn entry_on(entries: &[u32], k: usize, second: bool) -> bool
+    ensures { result ≡ on_at entries.now (length entries.now) second k }
 {
-    if k < count {
+    if k < entries.len() {
         return on(entries[k], second);
     }
     true
 }
 
-pub(crate) fn entry_action(
-    first: &[u64],
-    second: &[u64],
-    entries: &[u32; MOST],
-    count: usize,
-    k: usize,
-) -> u64
-    requires { count ≤ 2 * row_limit }
-    ensures { result ≡ action_at (sides first.now second.now entries.now count 0) k }
+pub(crate) fn entry_action(first: &[u64], second: &[u64], entries: &[u32], k: usize) -> u64
+    ensures { result ≡ action_at (sides first.now second.now entries.now (length entries.now) 0) k }
 {
-    if k < count {
+    if k < entries.len() {
         return code_action(first, second, entries[k]);
     }
     0
@@ -68,16 +59,14 @@ pub(crate) fn entry_action(
 pub(crate) fn entry_apart(
     first: &[u64],
     second: &[u64],
-    entries: &[u32; MOST],
-    count: usize,
+    entries: &[u32],
     k: usize,
     field: usize,
     bounds: &[u64; RANGES_WORDS],
 ) -> bool
-    requires { count ≤ 2 * row_limit }
-    ensures { result ≡ true → EntryApart (sides first.now second.now entries.now count field) k bounds.now }
+    ensures { result ≡ true → EntryApart (sides first.now second.now entries.now (length entries.now) field) k bounds.now }
 {
-    if k < count {
+    if k < entries.len() {
         return apart_from(first, second, entries[k], field, bounds);
     }
     false
@@ -86,16 +75,14 @@ pub(crate) fn entry_apart(
 pub(crate) fn entry_covers(
     first: &[u64],
     second: &[u64],
-    entries: &[u32; MOST],
-    count: usize,
+    entries: &[u32],
     k: usize,
     field: usize,
     bounds: &[u64; RANGES_WORDS],
 ) -> bool
-    requires { count ≤ 2 * row_limit }
-    ensures { result ≡ true → EntryCovers (sides first.now second.now entries.now count field) k bounds.now }
+    ensures { result ≡ true → EntryCovers (sides first.now second.now entries.now (length entries.now) field) k bounds.now }
 {
-    if k < count {
+    if k < entries.len() {
         return covers(first, second, entries[k], field, bounds);
     }
     true
@@ -105,16 +92,14 @@ pub(crate) fn entry_covers(
 pub(crate) fn entry_common(
     first: &[u64],
     second: &[u64],
-    entries: &[u32; MOST],
-    count: usize,
+    entries: &[u32],
     k: usize,
     field: usize,
     bounds: Bounds,
 ) -> Bounds
-    requires { count ≤ 2 * row_limit }
-    ensures { EntryCommon (sides first.now second.now entries.now count field) k bounds.words result.words }
+    ensures { EntryCommon (sides first.now second.now entries.now (length entries.now) field) k bounds.words result.words }
 {
-    if k < count {
+    if k < entries.len() {
         return common(first, second, entries[k], field, bounds);
     }
     bounds

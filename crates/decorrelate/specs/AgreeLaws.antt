@@ -1,5 +1,5 @@
 -- A difference without rows: the policies agree. Assumes nothing.
-use Rattle.std.specs.Prelude.{ℕ, ◌≤◌, ◌≡◌, refl, Bool, true, false, ◌↔◌, eqb, length}
+use Rattle.std.specs.Prelude.{ℕ, ◌≤◌, ◌≡◌, refl, Bool, true, false, ◌↔◌, eqb, length, Result, Ok, Err}
 use Rattle.std.proofs.Common.{arith, sym, ap, ◌∙◌, ne_eqb, eq-eqb, eqb-true}
 use Rattle.std.proofs.Math.Decide.{ℕ_discrete}
 use Rattle.std.proofs.lemmas.Bool.{false≢true}
@@ -15,8 +15,8 @@ use Rattle.policy.proofs.WordsLaws.{word_action}
 use Rattle.layout.specs.Parting.{parting-≟, agreed, parted, parting_at, difference_form}
 use Rattle.layout.specs.Laid.{sizes_of, room_for, Outcome}
 use Rattle.layout.specs.declared.Point.{Point}
-use Rattle.layout.specs.declared.Laid.{Laid}
-use Rattle.layout.specs.declared.Laid.TheVariants.{Rows, Over, NoRoom}
+use Rattle.layout.specs.declared.LayoutError.{LayoutError}
+use Rattle.layout.specs.declared.LayoutError.TheVariants.{Over, NoRoom}
 use Rattle.policy_text.specs.declared.Edition.{Edition}
 use Rattle.policy_text.specs.Editions.{edition_sizes, rules}
 use Rattle.decorrelate.specs.Form.{form}
@@ -58,21 +58,20 @@ difference_none sizes d ps qs =
     )
 
 -- Whether an answer says that there is no difference.
-abbrev pub no_rows : Laid → Bool
-no_rows (Rows n) = eqb n 0
-no_rows Over = false
-no_rows NoRoom = false
+abbrev pub no_rows : Result ℕ LayoutError → Bool
+no_rows (Ok n) = eqb n 0
+no_rows (Err e) = false
 
-no-rows : (limit : ℕ) {A : Type 0} (L : List A) (r : Laid) → Counted limit (length L) r → (no_rows r ≡ true) ↔ (L ≡ [])
+no-rows : (limit : ℕ) {A : Type 0} (L : List A) (r : Result ℕ LayoutError) → Counted limit (length L) r → (no_rows r ≡ true) ↔ (L ≡ [])
 unfolding Counted
-no-rows limit [] (Rows n) c = (λ e. refl, λ e. eq-eqb n 0 c.1)
-no-rows limit (x ∷ L) (Rows n) c = (λ e. let h = eqb-true n 0 e in absurd (omega arith), λ e. absurd (cons-ne-nil x L e))
-no-rows limit [] Over c = absurd (omega arith)
-no-rows limit (x ∷ L) Over c = (λ e. absurd (false≢true e), λ e. absurd (cons-ne-nil x L e))
-no-rows limit L NoRoom c = absurd c
+no-rows limit [] (Ok n) c = (λ e. refl, λ e. eq-eqb n 0 c.1)
+no-rows limit (x ∷ L) (Ok n) c = (λ e. let h = eqb-true n 0 e in absurd (omega arith), λ e. absurd (cons-ne-nil x L e))
+no-rows limit [] (Err Over) c = absurd (omega arith)
+no-rows limit (x ∷ L) (Err Over) c = (λ e. absurd (false≢true e), λ e. absurd (cons-ne-nil x L e))
+no-rows limit L (Err NoRoom) c = absurd c
 
 -- What the layout of a difference answers says whether the policies agree.
-pub answers_agree : (limit : ℕ) (sizes : List ℕ) (highest : Point) (d : Direction) (ps qs : List PolicyRow) (room room' : List ℕ) (r : Laid)
+pub answers_agree : (limit : ℕ) (sizes : List ℕ) (highest : Point) (d : Direction) (ps qs : List PolicyRow) (room room' : List ℕ) (r : Result ℕ LayoutError)
     → room_for limit ≤ length room → Outcome limit (difference_form (sizes_of highest) d ps qs) room room' r → sizes_of highest ≡ sizes
     → (no_rows r ≡ true) ↔ Agree sizes d ps qs
 answers_agree limit sizes highest d ps qs room room' r enough o same =

@@ -1,5 +1,5 @@
 -- The words of a normal form: what a layout leaves is these, and they are read as the normal form's rows. Assumes nothing.
-use Rattle.std.specs.Prelude.{ℕ, zero, suc, ◌+◌, ◌*◌, ◌≤◌, ◌<◌, ◌≡◌, refl, Bool, true, false, cond, leb, length, get_or, take, drop}
+use Rattle.std.specs.Prelude.{ℕ, zero, suc, ◌+◌, ◌*◌, ◌≤◌, ◌<◌, ◌≡◌, refl, Bool, true, false, cond, leb, length, get_or, take, drop, Result, Ok, Err}
 use Rattle.std.proofs.Common.{arith, sym, ap, ◌∙◌, drop-drop, take-add}
 use Rattle.std.proofs.Math.Decide.{dec_le}
 use mathlib.Core.List.{List, [], ◌∷◌, map, Memᴰ}
@@ -29,10 +29,10 @@ use Rattle.layout.specs.PartingLaws.{action_leaf, difference_empty}
 use Rattle.layout.specs.Decode.{sizes_from}
 use Rattle.layout.specs.Laid.{laid_row, laid_from, sizes_of, room_for, Outcome}
 use Rattle.layout.specs.declared.Point.{Point}
-use Rattle.layout.specs.declared.Laid.{Laid}
-use Rattle.layout.specs.declared.Laid.TheVariants.{Rows, Over, NoRoom}
-use Rattle.decorrelate.specs.declared.Form.TheVariants.{Rows as FormRows, Over as FormOver}
-use Rattle.decorrelate.specs.Form.{form, form_row_words, form_words, padded, form_room, form_answer, form_after, FormOutcome}
+use Rattle.layout.specs.declared.LayoutError.{LayoutError}
+use Rattle.layout.specs.declared.LayoutError.TheVariants.{Over, NoRoom}
+use Rattle.decorrelate.specs.declared.OverLimit.{OverLimit}
+use Rattle.decorrelate.specs.Form.{form, form_row_words, form_words, padded, form_room, over_limit, form_answer, form_after, FormOutcome}
 
 -- The fields of IPv4 by their highest values.
 pub ipv4_highest : (p : Point) → p.words ≡ 0 ∷ 4294967295 ∷ 0 ∷ 4294967295 ∷ 0 ∷ 255 ∷ 0 ∷ 65536 ∷ 0 ∷ 65536 ∷ [] → sizes_of p ≡ edition_sizes One
@@ -117,7 +117,7 @@ unfolding rows_from
 no_second ws = refl
 
 -- What the layout of a policy without a second one leaves is its normal form.
-module _ (limit : ℕ) (d : Direction) (e : Edition) (ws : List ℕ) (highest : Point) (room room' : List ℕ) (r : Laid) where
+module _ (limit : ℕ) (d : Direction) (e : Edition) (ws : List ℕ) (highest : Point) (room room' : List ℕ) (r : Result ℕ LayoutError) where
   pub form_outcome : AllWords room' → length room' ≡ length room
       → Outcome limit (difference_form (sizes_of highest) d (policy_rows ws) (policy_rows (take 0 ws))) room room' r → sizes_of highest ≡ edition_sizes e
       → FormOutcome limit d (rules e (policy_rows ws)) room room' r
@@ -132,76 +132,76 @@ module _ (limit : ℕ) (d : Direction) (e : Edition) (ws : List ℕ) (highest : 
       count : length (difference_form (sizes_of highest) d (policy_rows ws) (policy_rows (take 0 ws))) ≡ length (form d rs)
       count = ap length same ∙ length-map (form d rs) (map_leaf action_leaf)
 
-      answer : r ≡ cond (leb (room_for limit) (length room)) (cond (leb (length (form d rs)) limit) (Rows (length (form d rs))) Over) NoRoom
+      answer : r ≡ cond (leb (room_for limit) (length room)) (cond (leb (length (form d rs)) limit) (Ok (length (form d rs))) (Err Over)) (Err NoRoom)
       answer = rw count at o.answer
 
       -- The rows are within the limit, and so within the room.
       within : (n : ℕ) (a b : Bool) → leb (room_for limit) (length room) ≡ a → leb (length (form d rs)) limit ≡ b
-          → Rows n ≡ cond a (cond b (Rows (length (form d rs))) Over) NoRoom → n * row_words ≤ length room'
+          → Ok n ≡ cond a (cond b (Ok (length (form d rs))) (Err Over)) (Err NoRoom) → n * row_words ≤ length room'
       within n true true p q e =
           let h = leb-true (room_for limit) (length room) p in
           let g = leb-true (length (form d rs)) limit q in
           let k : n ≡ length (form d rs) = cc in
           omega arith
-      within n true false p q e = let z : ◌≡◌ {A = ℕ} 0 1 = cc in absurd (omega arith)
-      within n false b p q e = let z : ◌≡◌ {A = ℕ} 0 1 = cc in absurd (omega arith)
+      within n true false p q e = cc
+      within n false b p q e = cc
 
-      words : (n : ℕ) → r ≡ Rows n → take (n * row_words) room' ≡ form_words (form d rs)
+      words : (n : ℕ) → r ≡ Ok n → take (n * row_words) room' ≡ form_words (form d rs)
       words n e =
           let h : n * row_words ≤ length room' = within n _ _ refl refl (sym e ∙ answer) in
           rows_exact room' 0 n (form d rs) fit (omega arith) (o.rows n e ∙ same)
 
 -- What an answer says of the count of the rows, with room for the limit.
-unfoldable pub Counted : ℕ → ℕ → Laid → Type 0
-Counted limit count (Rows n) = (n ≤ limit) × (n ≡ count)
-Counted limit count Over = limit < count
-Counted limit count NoRoom = ⊥
+unfoldable pub Counted : ℕ → ℕ → Result ℕ LayoutError → Type 0
+Counted limit count (Ok n) = (n ≤ limit) × (n ≡ count)
+Counted limit count (Err Over) = limit < count
+Counted limit count (Err NoRoom) = ⊥
 
-pub counted : (limit count room : ℕ) (r : Laid) → room_for limit ≤ room
-    → r ≡ cond (leb (room_for limit) room) (cond (leb count limit) (Rows count) Over) NoRoom → Counted limit count r
+pub counted : (limit count room : ℕ) (r : Result ℕ LayoutError) → room_for limit ≤ room
+    → r ≡ cond (leb (room_for limit) room) (cond (leb count limit) (Ok count) (Err Over)) (Err NoRoom) → Counted limit count r
 unfolding Counted
 counted limit count room r enough answer = by (dec_le count limit)
   where
     by : Dec (count ≤ limit) → Counted limit count r
     by (yes h) =
-        let e : r ≡ Rows count = answer ∙ rw (le-leb (room_for limit) room enough, le-leb count limit h) in
+        let e : r ≡ Ok count = answer ∙ rw (le-leb (room_for limit) room enough, le-leb count limit h) in
         rw e (h, refl)
     by (no h) =
-        let e : r ≡ Over = answer ∙ rw (le-leb (room_for limit) room enough, lt-leb count limit (omega arith)) in
+        let e : r ≡ Err Over = answer ∙ rw (le-leb (room_for limit) room enough, lt-leb count limit (omega arith)) in
         rw e (omega arith)
 
 -- What it says of a normal form.
-unfoldable pub Laying : ℕ → Direction → Rules → List ℕ → Laid → Type 0
-Laying limit d rs room' (Rows n) = (n ≤ limit) × (n ≡ length (form d rs)) × (take (n * row_words) room' ≡ form_words (form d rs))
-Laying limit d rs room' Over = limit < length (form d rs)
-Laying limit d rs room' NoRoom = ⊥
+unfoldable pub Laying : ℕ → Direction → Rules → List ℕ → Result ℕ LayoutError → Type 0
+Laying limit d rs room' (Ok n) = (n ≤ limit) × (n ≡ length (form d rs)) × (take (n * row_words) room' ≡ form_words (form d rs))
+Laying limit d rs room' (Err Over) = limit < length (form d rs)
+Laying limit d rs room' (Err NoRoom) = ⊥
 
-pub laying : (limit : ℕ) (d : Direction) (rs : Rules) (room room' : List ℕ) (r : Laid) → room_for limit ≤ length room
+pub laying : (limit : ℕ) (d : Direction) (rs : Rules) (room room' : List ℕ) (r : Result ℕ LayoutError) → room_for limit ≤ length room
     → FormOutcome limit d rs room room' r → Laying limit d rs room' r
 unfolding Laying Counted
 laying limit d rs room room' r enough o = by r refl (counted limit (length (form d rs)) (length room) r enough o.answer)
   where
-    by : (q : Laid) → r ≡ q → Counted limit (length (form d rs)) q → Laying limit d rs room' q
-    by (Rows n) e c = (c.0, c.1, o.words n e)
-    by Over e c = c
-    by NoRoom e c = c
+    by : (q : Result ℕ LayoutError) → r ≡ q → Counted limit (length (form d rs)) q → Laying limit d rs room' q
+    by (Ok n) e c = (c.0, c.1, o.words n e)
+    by (Err Over) e c = c
+    by (Err NoRoom) e c = c
 
 -- What an answer makes of a room for `capacity` rows.
 module _ (capacity limit : ℕ) (d : Direction) (rs : Rules) (room ws : List ℕ) where
-  pub form-written : (n : ℕ) → Laying limit d rs room (Rows n)
-      → (FormRows n ≡ form_answer limit d rs) × (padded (capacity * row_words) (take (n * row_words) room) ≡ form_after capacity limit d rs ws)
+  pub form-written : (n : ℕ) → Laying limit d rs room (Ok n)
+      → (Ok n ≡ form_answer limit d rs) × (padded (capacity * row_words) (take (n * row_words) room) ≡ form_after capacity limit d rs ws)
   unfolding Laying
   form-written n l =
       let e = le-leb (length (form d rs)) limit (omega (arith, l.0, l.1)) in
       (rw (e, l.1), rw (e, l.2))
 
-  pub form_left : Laying limit d rs room Over → (FormOver ≡ form_answer limit d rs) × (ws ≡ form_after capacity limit d rs ws)
+  pub form_left : Laying limit d rs room (Err Over) → (Err over_limit ≡ form_answer limit d rs) × (ws ≡ form_after capacity limit d rs ws)
   unfolding Laying
   form_left l = let e = lt-leb (length (form d rs)) limit l in (rw e, rw e)
 
 -- And what that answer says.
 module _ (limit : ℕ) (d : Direction) (rs : Rules) where
-  pub form_within : (n : ℕ) → form_answer limit d rs ≡ FormRows n
+  pub form_within : (n : ℕ) → form_answer limit d rs ≡ Ok n
       → (length (form d rs) ≤ limit) × (n ≡ length (form d rs))
       × ((capacity : ℕ) (ws : List ℕ) → form_after capacity limit d rs ws ≡ form_room capacity d rs)
   form_within n e = by (dec_le (length (form d rs)) limit)
@@ -211,19 +211,17 @@ module _ (limit : ℕ) (d : Direction) (rs : Rules) where
           × ((capacity : ℕ) (ws : List ℕ) → form_after capacity limit d rs ws ≡ form_room capacity d rs)
       by (yes h) =
           let t = le-leb (length (form d rs)) limit h in
-          let a : FormRows (length (form d rs)) ≡ FormRows n = rw t at e in
+          let a : ◌≡◌ {A = Result ℕ OverLimit} (Ok (length (form d rs))) (Ok n) = rw t at e in
           (h, cc, λ capacity ws. rw t)
       by (no h) =
-          let a : FormOver ≡ FormRows n = rw (lt-leb (length (form d rs)) limit (omega arith)) at e in
-          let z : ◌≡◌ {A = ℕ} 0 1 = cc in
-          absurd (omega arith)
+          let a : ◌≡◌ {A = Result ℕ OverLimit} (Err over_limit) (Ok n) = rw (lt-leb (length (form d rs)) limit (omega arith)) at e in
+          cc
 
-  pub form_over : form_answer limit d rs ≡ FormOver → limit < length (form d rs)
+  pub form_over : form_answer limit d rs ≡ Err over_limit → limit < length (form d rs)
   form_over e = by (dec_le (length (form d rs)) limit)
     where
       by : Dec (length (form d rs) ≤ limit) → limit < length (form d rs)
       by (yes h) =
-          let a : FormRows (length (form d rs)) ≡ FormOver = rw (le-leb (length (form d rs)) limit h) at e in
-          let z : ◌≡◌ {A = ℕ} 0 1 = cc in
-          absurd (omega arith)
+          let a : ◌≡◌ {A = Result ℕ OverLimit} (Ok (length (form d rs))) (Err over_limit) = rw (le-leb (length (form d rs)) limit h) at e in
+          cc
       by (no h) = omega arith

@@ -1,7 +1,7 @@
 -- Laws of the form of the fields that are left, behind values of the earlier ones. Assumes nothing.
 use Prim.Native.Nat.{ℕ, zero, suc, ◌+◌, ◌-◌, ◌*◌, ◌/◌, ◌≤◌, ◌<◌}
 use native.Mathlib.Omega.{arith}
-use Rattle.std.specs.Prelude.{◌≡◌, Bool, ◌&&◌, length, get_or, set}
+use Rattle.std.specs.Prelude.{◌≡◌, Bool, ◌&&◌, length, get_or, set, Ok, Err}
 use Rattle.std.proofs.Math.Path.{refl, sym, ap}
 use Rattle.std.proofs.Common.{◌∙◌, inl, ⊎_elim, eq-eqb, ne_eqb}
 use Rattle.std.proofs.Math.Bool.{true, false, and_assoc}
@@ -25,8 +25,8 @@ use Rattle.layout.specs.Decode.{sizes_from, row_ranges, active, part_row, part_r
 use Rattle.layout.specs.DecodeLaws.{active-matches}
 use Rattle.layout.specs.Steps.{form_behind, form_at, LaidOut, AlikeTo, AlikeAmong, SearchAlike}
 use Rattle.layout.specs.StepsLaws.{laid-rows, laid_over}
-use Rattle.layout.specs.declared.Laid.TheVariants.{Rows, Over}
-use Rattle.layout.specs.declared.Task.{Task}
+use Rattle.layout.specs.declared.LayoutError.TheVariants.{Over}
+use Rattle.layout.specs.declared.branch.Task.{Task}
 
 -- Behind the last field.
 module _ (d : Direction) (first second : List PolicyRow) (before : List ℕ) (a b : ℕ)
@@ -54,19 +54,19 @@ module _ (d : Direction) (first second : List PolicyRow) (before : List ℕ) (a 
 module _ (first second : List ℕ) (task : Task) (before : List ℕ) (a b : ℕ)
     (ea : a ≡ action_word (ordered_search task.direction (policy_rows first) before))
     (eb : b ≡ action_word (ordered_search task.direction (policy_rows second) before)) where
-  pub laid-agreed : a ≡ b → (ws : List ℕ) → LaidOut task.limit field_count 0 (form_at first second task before field_count 0) ws (Rows 0)
+  pub laid-agreed : a ≡ b → (ws : List ℕ) → LaidOut task.limit field_count 0 (form_at first second task before field_count 0) ws (Ok 0)
   unfolding sizes_from part_rows
   laid-agreed e ws =
       laid-rows task.limit field_count 0 _ ws 0 (sym (leaf-agreed task.direction (policy_rows first) (policy_rows second) before a b ea eb e)) (omega arith)
 
-  pub laid-full : (a ≡ b → ⊥) → task.limit ≡ 0 → (ws : List ℕ) → LaidOut task.limit field_count 0 (form_at first second task before field_count 0) ws Over
+  pub laid-full : (a ≡ b → ⊥) → task.limit ≡ 0 → (ws : List ℕ) → LaidOut task.limit field_count 0 (form_at first second task before field_count 0) ws (Err Over)
   unfolding sizes_from
   laid-full n e ws =
       laid_over task.limit field_count 0 _ ws
       (rw (leaf_apart task.direction (policy_rows first) (policy_rows second) before a b ea eb n) (omega arith))
 
   pub laid_leaf : (a ≡ b → ⊥) → (task.limit ≡ 0 → ⊥) → (ws : List ℕ) → task.limit * row_words ≤ length ws
-      → LaidOut task.limit field_count 0 (form_at first second task before field_count 0) (set (set ws 0 b) 1 a) (Rows 1)
+      → LaidOut task.limit field_count 0 (form_at first second task before field_count 0) (set (set ws 0 b) 1 a) (Ok 1)
   unfolding sizes_from part_rows part_row ranges_from
   laid_leaf n z ws h =
       laid-rows task.limit field_count 0 _ (set (set ws 0 b) 1 a) 1

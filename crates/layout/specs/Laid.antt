@@ -1,13 +1,13 @@
 -- What a layout answers, and what it leaves in the room. Assumes nothing: these are definitions.
-use Rattle.std.specs.Prelude.{ℕ, zero, suc, ◌+◌, ◌*◌, ◌≡◌, cond, List, [], ◌∷◌, leb, length}
+use Rattle.std.specs.Prelude.{ℕ, zero, suc, ◌+◌, ◌*◌, ◌≡◌, cond, List, [], ◌∷◌, leb, length, Result, Ok, Err}
 use Rattle.selectors.specs.Words.{field_count, ranges_at}
 use Rattle.normal_form.specs.Search.{Row, row}
 use Rattle.policy.specs.Words.{row_words}
 use Rattle.layout.specs.Parting.{Parting}
 use Rattle.layout.specs.Decode.{sizes_from, leaf_of}
 use Rattle.layout.specs.declared.Point.{Point}
-use Rattle.layout.specs.declared.Laid.{Laid}
-use Rattle.layout.specs.declared.Laid.TheVariants.{Rows, Over, NoRoom}
+use Rattle.layout.specs.declared.LayoutError.{LayoutError}
+use Rattle.layout.specs.declared.LayoutError.TheVariants.{Over, NoRoom}
 
 -- A row that is laid out, from the word `at` on. A row of a normal form has 0 in its first word, which a policy reads as a row for
 -- both directions, and its action in the second, where a policy has it.
@@ -34,11 +34,11 @@ abbrev pub room_for : ℕ → ℕ
 room_for limit = limit * room_words
 
 -- The count of the rows, or that there are more than the limit.
-abbrev pub answer_of : ℕ → List (Row Parting) → Laid
-answer_of limit form = cond (leb (length form) limit) (Rows (length form)) Over
+abbrev pub answer_of : ℕ → List (Row Parting) → Result ℕ LayoutError
+answer_of limit form = cond (leb (length form) limit) (Ok (length form)) (Err Over)
 
 -- What a layout of this form leaves. The rest of the room, and all of it where the answer is `Over`, is left open: it is scratch.
-pub record Outcome (limit : ℕ) (form : List (Row Parting)) (ws ws' : List ℕ) (r : Laid) : Type 0 where
-  pub answer : r ≡ cond (leb (room_for limit) (length ws)) (answer_of limit form) NoRoom
-  pub rows : (n : ℕ) → r ≡ Rows n → laid_rows ws' n ≡ form
-  pub untouched : r ≡ NoRoom → ws' ≡ ws
+pub record Outcome (limit : ℕ) (form : List (Row Parting)) (ws ws' : List ℕ) (r : Result ℕ LayoutError) : Type 0 where
+  pub answer : r ≡ cond (leb (room_for limit) (length ws)) (answer_of limit form) (Err NoRoom)
+  pub rows : (n : ℕ) → r ≡ Ok n → laid_rows ws' n ≡ form
+  pub untouched : r ≡ Err NoRoom → ws' ≡ ws

@@ -1,5 +1,5 @@
 -- From the layout of the first field on to the whole. Assumes nothing.
-use Rattle.std.specs.Prelude.{ℕ, zero, suc, ◌+◌, ◌≤◌, ◌<◌, ◌≡◌, refl, List, [], length}
+use Rattle.std.specs.Prelude.{ℕ, zero, suc, ◌+◌, ◌≤◌, ◌<◌, ◌≡◌, refl, List, [], length, Result, Ok, Err}
 use Rattle.std.proofs.Common.{arith, sym, ◌∙◌, le-leb}
 use Rattle.std.proofs.Math.Decide.{dec_le}
 use Rattle.std.proofs.lemmas.Bool.{lt-leb}
@@ -13,9 +13,9 @@ use Rattle.layout.specs.Decode.{part_row, part_rows}
 use Rattle.layout.specs.Laid.{laid_row, laid_from, sizes_of, room_for, Outcome}
 use Rattle.layout.specs.Steps.{form_at, words_for, LaidOut}
 use Rattle.layout.specs.ProgressLaws.{laid-count}
-use Rattle.layout.specs.declared.Task.{Task}
-use Rattle.layout.specs.declared.Laid.{Laid}
-use Rattle.layout.specs.declared.Laid.TheVariants.{Rows, Over, NoRoom}
+use Rattle.layout.specs.declared.branch.Task.{Task}
+use Rattle.layout.specs.declared.LayoutError.{LayoutError}
+use Rattle.layout.specs.declared.LayoutError.TheVariants.{Over, NoRoom}
 
 -- A row of which all fields are laid out is a whole row.
 rows_whole : (ws : List ℕ) (i c : ℕ) → part_rows 0 field_count ws i c ≡ laid_from ws i c
@@ -27,14 +27,14 @@ pub all_words : (limit : ℕ) → words_for limit field_count ≡ room_for limit
 unfolding words_for
 all_words limit = omega arith
 
-pub no_room : (limit : ℕ) (form : List (Row Parting)) (ws : List ℕ) → length ws < room_for limit → Outcome limit form ws ws NoRoom
+pub no_room : (limit : ℕ) (form : List (Row Parting)) (ws : List ℕ) → length ws < room_for limit → Outcome limit form ws ws (Err NoRoom)
 no_room limit form ws h = record {
   answer = rw (lt-leb (room_for limit) (length ws) h);
-  rows = λ n e. let z : ◌≡◌ {A = ℕ} 0 1 = cc in absurd (omega arith);
+  rows = λ n e. cc;
   untouched = λ e. refl;
 }
 
-pub laid_all : (first second : List ℕ) (task : Task) (ps ws ws' : List ℕ) (r : Laid) → room_for task.limit ≤ length ws
+pub laid_all : (first second : List ℕ) (task : Task) (ps ws ws' : List ℕ) (r : Result ℕ LayoutError) → room_for task.limit ≤ length ws
     → LaidOut task.limit 0 field_count (form_at first second task (values_from ps 0 0) 0 field_count) ws' r
     → Outcome task.limit (difference_form (sizes_of task.highest) task.direction (policy_rows first) (policy_rows second)) ws ws' r
 unfolding values_from
@@ -44,12 +44,10 @@ laid_all first second task ps ws ws' r h l = record {
   untouched = λ e. absurd (never e (dec_le (length (form_at first second task [] 0 field_count)) task.limit));
 }
   where
-    never : r ≡ NoRoom → Dec (length (form_at first second task [] 0 field_count) ≤ task.limit) → ⊥
+    never : r ≡ Err NoRoom → Dec (length (form_at first second task [] 0 field_count) ≤ task.limit) → ⊥
     never e (yes g) =
-        let a : r ≡ Rows (length (form_at first second task [] 0 field_count)) = rw (le-leb (length (form_at first second task [] 0 field_count)) task.limit g) at l.answer in
-        let z : ◌≡◌ {A = ℕ} 0 1 = cc in
-        omega arith
+        let a : r ≡ Ok (length (form_at first second task [] 0 field_count)) = rw (le-leb (length (form_at first second task [] 0 field_count)) task.limit g) at l.answer in
+        cc
     never e (no g) =
-        let a : r ≡ Over = rw (lt-leb (length (form_at first second task [] 0 field_count)) task.limit (omega arith)) at l.answer in
-        let z : ◌≡◌ {A = ℕ} 0 1 = cc in
-        omega arith
+        let a : r ≡ Err Over = rw (lt-leb (length (form_at first second task [] 0 field_count)) task.limit (omega arith)) at l.answer in
+        cc

@@ -4,9 +4,9 @@ use native.Mathlib.Omega.{arith}
 use Rattle.std.proofs.Math.Decide.{dec_le}
 use Rattle.std.proofs.Math.Nat.{min-eq_left}
 use Rattle.std.proofs.Common.{add-one, sym, ◌∙◌, ⊎_elim, length-drop, length-take-le, get_or-take, get_or-append-add, le-leb}
-use Rattle.std.specs.Prelude.{◌≡◌, refl, false, List, [], ◌∷◌, ◌++◌, ◌⊎◌, length, get_or, take, drop}
+use Rattle.std.specs.Prelude.{◌≡◌, refl, List, [], ◌∷◌, ◌++◌, length, get_or, take, drop, Option, Some, None, Result, Ok, Err}
 use Rattle.std.proofs.Math.Path.{ap}
-use Rattle.std.proofs.lemmas.Bool.{false≢true, lt-leb}
+use Rattle.std.proofs.lemmas.Bool.{lt-leb}
 use Rattle.std.proofs.Math.ListN.{get_or-append}
 use Rattle.selectors.specs.Value.{number}
 use Rattle.selectors.specs.Words.{field_count, value_words, value_of, values_from}
@@ -22,13 +22,11 @@ use Rattle.layout.specs.Steps.{form_at, words_for, LaidOut, SearchAlike, Stamped
 use Rattle.layout.specs.StepsLaws.{stamped_done, laid-rows, laid_over, words-next}
 use Rattle.layout.specs.FormLaws.{form-field, form_alike, values_with}
 use Rattle.layout.specs.TurnLaws.{Reached, reached_start, reached_rows, reached-length, reached_merged, reached_again, reached_begun, rows_grow, layout_within}
-use Rattle.layout.specs.Stretches.{is_over, Joins, StretchOut, PlacedStretch}
+use Rattle.layout.specs.Stretches.{Joins, StretchOut, PlacedStretch}
 use Rattle.layout.specs.declared.Kept.{Kept}
-use Rattle.layout.specs.declared.Task.{Task}
-use Rattle.layout.specs.declared.Laid.{Laid}
-use Rattle.layout.specs.declared.Laid.TheVariants.{Rows, Over}
-use Rattle.layout.specs.declared.Stretch.{Stretch}
-use Rattle.layout.specs.declared.Stretch.TheVariants.{Rows as StretchRows, Again, Over as StretchOver}
+use Rattle.layout.specs.declared.branch.Task.{Task}
+use Rattle.layout.specs.declared.LayoutError.{LayoutError}
+use Rattle.layout.specs.declared.LayoutError.TheVariants.{Over}
 
 module _ (first second : List ℕ) (task : Task) (before : List ℕ) (f : ℕ) where
   -- The layout behind the value v of the field f.
@@ -54,7 +52,7 @@ module _ (first second : List ℕ) (task : Task) (before : List ℕ) (f : ℕ) w
 
   -- A layout behind a value over the limit, and rows over the limit so far: the form is over the limit.
   pub over-behind : f < field_count → (limit v : ℕ) → v ≤ value_of task.highest.words f → limit < length (layout_at v) → (ws : List ℕ)
-      → LaidOut limit f (field_count - f) (form_at first second task before f (field_count - f)) ws Over
+      → LaidOut limit f (field_count - f) (form_at first second task before f (field_count - f)) ws (Err Over)
   over-behind h limit v g o ws =
       laid_over limit f (field_count - f) _ ws
       (rw (form-next h) (omega (arith, layout_within parting-≟ layout_at v (value_of task.highest.words f + 1) (omega arith))))
@@ -64,7 +62,7 @@ module _ (first second : List ℕ) (task : Task) (before : List ℕ) (f : ℕ) w
       reached-length parting-≟ layout_at v _ _ _ p.reached ∙ rw (rows-length, rows-length) (omega (arith, p.ordered))
 
   pub over_so_far : f < field_count → (limit : ℕ) (ws : List ℕ) (kept : Kept) (v : ℕ) → Progress ws kept v → v ≤ value_of task.highest.words f + 1 → limit < kept.next
-      → (ws' : List ℕ) → LaidOut limit f (field_count - f) (form_at first second task before f (field_count - f)) ws' Over
+      → (ws' : List ℕ) → LaidOut limit f (field_count - f) (form_at first second task before f (field_count - f)) ws' (Err Over)
   over_so_far h limit ws kept v p g o ws' =
       laid_over limit f (field_count - f) _ ws'
       (rw (form-next h) (omega (arith, length_so_far ws kept v p, rows_grow parting-≟ layout_at v (value_of task.highest.words f + 1) g)))
@@ -72,7 +70,7 @@ module _ (first second : List ℕ) (task : Task) (before : List ℕ) (f : ℕ) w
   -- The last interval ends with the field: all is laid out.
   pub laid_out : f < field_count → (limit : ℕ) (ws ws' : List ℕ) (kept : Kept) (top : ℕ) → top ≡ value_of task.highest.words f → Progress ws kept (top + 1) → kept.next ≤ limit
       → Stamped f (field_count - (f + 1)) kept.last kept.next (number kept.low) top ws ws'
-      → LaidOut limit f (field_count - f) (form_at first second task before f (field_count - f)) ws' (Rows kept.next)
+      → LaidOut limit f (field_count - f) (form_at first second task before f (field_count - f)) ws' (Ok kept.next)
   laid_out h limit ws ws' kept top e p g s =
       let k : field_count - f ≡ suc (field_count - (f + 1)) = omega arith in
       let t : top + 1 - 1 ≡ top = omega arith in
@@ -130,18 +128,17 @@ module _ (first second : List ℕ) (task : Task) (before : List ℕ) (f : ℕ) w
 
 -- What an answer tells.
 module _ (limit f n : ℕ) (form : List (Row Parting)) (ws : List ℕ) where
-  pub laid-count : (c : ℕ) (r : Laid) → r ≡ Rows c → LaidOut limit f n form ws r → (c ≤ limit) × (part_rows f n ws 0 c ≡ form)
+  pub laid-count : (c : ℕ) (r : Result ℕ LayoutError) → r ≡ Ok c → LaidOut limit f n form ws r → (c ≤ limit) × (part_rows f n ws 0 c ≡ form)
   laid-count c r e l = by (dec_le (length form) limit)
     where
       by : Dec (length form ≤ limit) → (c ≤ limit) × (part_rows f n ws 0 c ≡ form)
       by (yes h) =
-          let a : r ≡ Rows (length form) = rw (le-leb (length form) limit h) at l.answer in
+          let a : r ≡ Ok (length form) = rw (le-leb (length form) limit h) at l.answer in
           let k : c ≡ length form = cc in
           (omega arith, rw k (l.written h))
       by (no h) =
-          let a : r ≡ Over = rw (lt-leb (length form) limit (omega arith)) at l.answer in
-          let z : ◌≡◌ {A = ℕ} 0 1 = cc in
-          absurd (omega arith)
+          let a : r ≡ Err Over = rw (lt-leb (length form) limit (omega arith)) at l.answer in
+          cc
 
 -- A list of which the part from a on was lent and came back.
 module _ (a : ℕ) (xs part rest : List ℕ) (h : a ≤ length xs) where
@@ -157,7 +154,7 @@ module _ (a : ℕ) (xs part rest : List ℕ) (h : a ≤ length xs) where
 pub turn_lent : (first second : List ℕ) (task : Task) (before : List ℕ) (f : ℕ) → f < field_count → (v w : ℕ) → v ≤ w
     → SearchAlike task.direction first before v w × SearchAlike task.direction second before v w
     → (ws part rest ws'' : List ℕ) (old new : Kept) (limit count : ℕ) → Progress first second task before f ws old v → old.next * row_words ≤ length ws
-    → limit * row_words ≤ length part → (r : Laid) → r ≡ Rows count → LaidOut limit (f + 1) (field_count - (f + 1)) (layout_at first second task before f v) part r
+    → limit * row_words ≤ length part → (r : Result ℕ LayoutError) → r ≡ Ok count → LaidOut limit (f + 1) (field_count - (f + 1)) (layout_at first second task before f v) part r
     → Placed f (field_count - (f + 1)) old count v (take (old.next * row_words) ws ++ (part ++ rest)) ws'' new → Progress first second task before f ws'' new (w + 1)
 turn_lent first second task before f h v w g ab ws part rest ws'' old new limit count p room enough r q l =
     let c = laid-count limit (f + 1) (field_count - (f + 1)) _ part count r q l in
@@ -170,16 +167,14 @@ turn_lent first second task before f h v w g ab ws part rest ws'' old new limit 
 pub turn_stretch : (first second : List ℕ) (task : Task) (before : List ℕ) (f : ℕ) → f < field_count → (v w : ℕ) → v ≤ w
     → SearchAlike task.direction first before v w × SearchAlike task.direction second before v w
     → (ws part rest ws'' : List ℕ) (old new : Kept) (limit : ℕ) → Progress first second task before f ws old v → old.next * row_words ≤ length ws
-    → limit * row_words ≤ length part → (r : Stretch) → is_over r ≡ false
-    → StretchOut limit (f + 1) (field_count - (f + 1)) v (layout_at first second task before f) part r
+    → limit * row_words ≤ length part → (r : Option ℕ) → (q : Result (Option ℕ) LayoutError) → q ≡ Ok r
+    → StretchOut limit (f + 1) (field_count - (f + 1)) v (layout_at first second task before f) part q
     → PlacedStretch f (field_count - (f + 1)) old r v (take (old.next * row_words) ws ++ (part ++ rest)) ws'' new → Progress first second task before f ws'' new (w + 1)
-unfolding is_over
-turn_stretch first second task before f h v w g ab ws part rest ws'' old new limit p room enough (StretchRows c) o s m =
-    turn_lent first second task before f h v w g ab ws part rest ws'' old new limit c p room enough (Rows c) refl (s.rows c refl) (m.placed c refl)
-turn_stretch first second task before f h v w g ab ws part rest ws'' old new limit p room enough Again o s m =
+turn_stretch first second task before f h v w g ab ws part rest ws'' old new limit p room enough (Some c) q e s m =
+    turn_lent first second task before f h v w g ab ws part rest ws'' old new limit c p room enough (Ok c) refl (s.rows c e) (m.placed c refl)
+turn_stretch first second task before f h v w g ab ws part rest ws'' old new limit p room enough None q e s m =
     rw ((m.again refl).0, (m.again refl).1)
-    (again-turn first second task before f h v w g ab.0 ab.1 ws _ old p (lent-before (old.next * row_words) ws part rest room) (s.again refl))
-turn_stretch first second task before f h v w g ab ws part rest ws'' old new limit p room enough StretchOver o s m = absurd (false≢true (sym o))
+    (again-turn first second task before f h v w g ab.0 ab.1 ws _ old p (lent-before (old.next * row_words) ws part rest room) (s.again e))
 
 -- The layout behind a value is that of the point with the value.
 module _ (first second : List ℕ) (task : Task) (ps hs : List ℕ) (f : ℕ) (v : Value) (p : length ps ≡ field_count * value_words) (h : f < field_count)
@@ -189,7 +184,7 @@ module _ (first second : List ℕ) (task : Task) (ps hs : List ℕ) (f : ℕ) (v
       ap (λ (us : List ℕ). form_at first second task us (f + 1) (field_count - (f + 1)))
       (ap (λ (xs : List ℕ). values_from xs 0 (f + 1)) e ∙ values_with ps f (number v) (omega arith))
 
-  module _ (limit : ℕ) (ws : List ℕ) (r : Laid) where
+  module _ (limit : ℕ) (ws : List ℕ) (r : Result ℕ LayoutError) where
     pub laid-field : LaidOut limit (f + 1) (field_count - (f + 1)) (form_at first second task (values_from hs 0 (f + 1)) (f + 1) (field_count - (f + 1))) ws r
         → LaidOut limit (f + 1) (field_count - (f + 1)) (layout_at first second task (values_from ps 0 f) f (number v)) ws r
     laid-field l = rw value-form at l
@@ -213,18 +208,6 @@ room_for limit f next n xs h g enough e =
     let l : length (take (length xs - next * row_words) (drop (next * row_words) xs)) ≡ length xs - next * row_words =
     length-take-le (length xs - next * row_words) (drop (next * row_words) xs) (rw (length-drop (next * row_words) xs) (omega arith)) in
     record { start = omega arith; behind = omega arith; enough = omega arith }
-
--- An answer that is no count: there are more rows than the limit. The tag of an answer is its place among the answers.
-pub laid_else : (limit f n : ℕ) (form : List (Row Parting)) (ws : List ℕ) (tag : Laid → ℕ) → ((m : ℕ) → tag (Rows m) ≡ 0) → (r : Laid)
-    → LaidOut limit f n form ws r → (tag r ≡ 1) ⊎ (tag r ≡ 2) → limit < length form
-laid_else limit f n form ws tag z r l o = by (dec_le (length form) limit)
-  where
-    by : Dec (length form ≤ limit) → limit < length form
-    by (yes h) =
-        let e : r ≡ Rows (length form) = rw (le-leb (length form) limit h) at l.answer in
-        let t : tag r ≡ 0 = ap tag e ∙ z (length form) in
-        absurd (⊎_elim (λ p. omega arith) (λ p. omega arith) o)
-    by (no h) = omega arith
 
 -- One more than a value below another one is no more than the largest.
 pub one_more : (M n e t : ℕ) → n ≡ min (e + 1) (M - 1) → e < t → t < M → n ≡ e + 1

@@ -1,5 +1,5 @@
 -- What the layout's steps leave. Assumes nothing: these are definitions.
-use Rattle.std.specs.Prelude.{ℕ, suc, ◌+◌, ◌*◌, ◌-◌, ◌≤◌, ◌<◌, ◌≡◌, true, List, [], ◌∷◌, ◌++◌, map, ◌≢◌, ◌⊎◌, length, get_or}
+use Rattle.std.specs.Prelude.{ℕ, suc, ◌+◌, ◌*◌, ◌-◌, ◌≤◌, ◌<◌, ◌≡◌, true, List, [], ◌∷◌, ◌++◌, map, ◌≢◌, ◌⊎◌, length, get_or, Result}
 use Rattle.selectors.specs.Range.{Range, contains}
 use Rattle.selectors.specs.Value.{number}
 use Rattle.selectors.specs.Words.{field_count, values_from}
@@ -14,8 +14,8 @@ use Rattle.layout.specs.Decode.{sizes_from, active, part_row, part_rows}
 use Rattle.layout.specs.Laid.{answer_of}
 use Rattle.layout.specs.declared.Point.{Point}
 use Rattle.layout.specs.declared.Kept.{Kept}
-use Rattle.layout.specs.declared.Task.{Task}
-use Rattle.layout.specs.declared.Laid.{Laid}
+use Rattle.layout.specs.declared.branch.Task.{Task}
+use Rattle.layout.specs.declared.LayoutError.{LayoutError}
 
 -- The words that a layout of n more fields needs: the limit's rows for each, and for what follows the last.
 unfoldable pub words_for : ℕ → ℕ → ℕ
@@ -38,7 +38,7 @@ abbrev pub value_form : List ℕ → List ℕ → Task → Point → ℕ → ℕ
 value_form first second task point f v = form_at first second task (values_from point.words 0 f ++ v ∷ []) (f + 1) (field_count - (f + 1))
 
 -- What a layout of n fields from f on leaves: the answer, and in the room the rows if they are within the limit.
-pub record LaidOut (limit f n : ℕ) (form : List (Row Parting)) (ws : List ℕ) (r : Laid) : Type 0 where
+pub record LaidOut (limit f n : ℕ) (form : List (Row Parting)) (ws : List ℕ) (r : Result ℕ LayoutError) : Type 0 where
   pub answer : r ≡ answer_of limit form
   pub written : length form ≤ limit → part_rows f n ws 0 (length form) ≡ form
 

@@ -1,5 +1,5 @@
 -- Laws of what the layout's steps leave. Assumes nothing.
-use Rattle.std.specs.Prelude.{ℕ, zero, suc, ◌+◌, ◌-◌, ◌*◌, ◌≤◌, ◌<◌, min, ◌≡◌, refl, List, ◌++◌, map, ◌≢◌, length}
+use Rattle.std.specs.Prelude.{ℕ, zero, suc, ◌+◌, ◌-◌, ◌*◌, ◌≤◌, ◌<◌, min, ◌≡◌, refl, List, ◌++◌, map, ◌≢◌, length, Ok, Err}
 use native.Mathlib.Omega.{arith}
 use Rattle.std.proofs.Math.Decide.{dec_lt}
 use Rattle.std.proofs.Math.Nat.{min-le_left, min-le_right, le-min}
@@ -25,7 +25,7 @@ use Rattle.layout.specs.Decode.{word_of, active, part_row, part_rows}
 use Rattle.layout.specs.DecodeLaws.{row_ranges_moved, row_moved, rows_moved, rows_split, rows-length}
 use Rattle.layout.specs.Steps.{AlikeTo, AlikeAmong, SearchAlike, IntervalEnd, Outside, Stamped, Begun, LaidOut, words_for}
 use Rattle.layout.specs.declared.Kept.{Kept}
-use Rattle.layout.specs.declared.Laid.TheVariants.{Rows, Over}
+use Rattle.layout.specs.declared.LayoutError.TheVariants.{Over}
 use Rattle.layout.specs.Parting.{Parting}
 
 -- A range treats alike what is below it, what is above it, and what is in it.
@@ -191,15 +191,15 @@ module _ (f n a b low high : ℕ) (ws ws' : List ℕ) (s : Stamped f n a b low h
   stamped-behind g m h count = rows_moved ws ws' g m h b b count (λ k p. s.others _ (inr (omega arith)))
 
 -- An interval ends and another one begins.
-pub begun : (f n : ℕ) (old : Kept) (count : ℕ) (from before : Value) (ws ws' : List ℕ) → f + suc n ≤ field_count → old.last ≤ old.next
-    → number before ≡ number from - 1
+pub begun : (f n : ℕ) (old : Kept) (count : ℕ) (from before : Value) (ws ws' : List ℕ) (new : Kept) → f + suc n ≤ field_count → old.last ≤ old.next
+    → new.last ≡ old.next → new.next ≡ old.next + count → number new.low ≡ number from → number before ≡ number from - 1
     → part_rows (f + 1) n ws old.last (old.next - old.last) ≢ part_rows (f + 1) n ws old.next count
     → Stamped f n old.last old.next (number old.low) (number before) ws ws'
-    → Begun f n old count (number from) ws ws' (record { last = old.next; next = old.next + count; low = from })
-begun f n old count from before ws ws' h g e d s = record {
-  last = refl;
-  next = refl;
-  low = refl;
+    → Begun f n old count (number from) ws ws' new
+begun f n old count from before ws ws' new h g p q r e d s = record {
+  last = p;
+  next = q;
+  low = r;
   apart = d;
   done = rw e at (stamped_done f n old.last old.next (number old.low) (number before) ws ws' s h g);
   block = stamped-behind f n old.last old.next (number old.low) (number before) ws ws' s (f + 1) n (omega arith) count;
@@ -207,12 +207,12 @@ begun f n old count from before ws ws' h g e d s = record {
 
 -- The two answers of a layout.
 module _ (limit f n : ℕ) (form : List (Row Parting)) (ws : List ℕ) where
-  pub laid-rows : (c : ℕ) → part_rows f n ws 0 c ≡ form → c ≤ limit → LaidOut limit f n form ws (Rows c)
+  pub laid-rows : (c : ℕ) → part_rows f n ws 0 c ≡ form → c ≤ limit → LaidOut limit f n form ws (Ok c)
   laid-rows c e h =
       let l : length form ≡ c = sym (ap length e) ∙ rows-length f n ws 0 c in
       record { answer = rw (l, le-leb c limit h); written = λ g. rw l e }
 
-  pub laid_over : limit < length form → LaidOut limit f n form ws Over
+  pub laid_over : limit < length form → LaidOut limit f n form ws (Err Over)
   laid_over h = record { answer = rw (lt-leb (length form) limit h); written = λ g. absurd (omega arith) }
 
 -- The words for a field's layout: those for the rows within the limit, and those for the layout behind it, which are no fewer.

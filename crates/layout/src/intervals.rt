@@ -9,11 +9,10 @@ ghost use Rattle.layout.specs.Decode.{active as isActive};
 ghost use Rattle.layout.specs.Lists.{AlikeListed, CutsAt};
 ghost use Rattle.layout.specs.Steps.{IntervalEnd, AlikeTo, AlikeAmong, SearchAlike};
 
+use crate::Point;
+use crate::branch::Branch;
 use crate::lists::{active, row_range};
-use crate::{Branch, Point, Task};
-use cover::wide;
 use policy::{LIMIT, ROW_WORDS};
-use selectors::words::SELECTOR_WORDS;
 use selectors::{Direction, Ends, Value};
 
 fn smaller(a: Value, b: Value) -> Value
@@ -54,42 +53,33 @@ fn row_end(
     rows: &[u64],
     row: usize,
     direction: Direction,
-    point: &[u64; SELECTOR_WORDS],
+    point: &Point,
     field: usize,
     from: Value,
     best: Value,
 ) -> Value
     requires field_lt_field_count { (field < field_count) × (row * row_words + row_words ≤ length rows.now) }
     requires from_bound { number from ≤ number best }
-    ensures { IntervalEnd (number from) (number best) (number result) (isActive direction rows.now row field (values_from point.now 0 field) ≡ true → AlikeTo (range_of rows.now row field) (number from) (number result)) }
+    ensures { IntervalEnd (number from) (number best) (number result) (isActive direction rows.now row field (values_from point.now.words 0 field) ≡ true → AlikeTo (range_of rows.now row field) (number from) (number result)) }
 {
     let end = range_end(rows, row, field, from, best);
     if !end.less(best) {
         return best;
     }
-    if !active(rows, row, direction, point, field) {
+    if !active(rows, row, direction, &point.words, field) {
         return best;
     }
     end
 }
 
 // The same for the listed rows.
-fn end_listed(
-    rows: &[u64],
-    list: &[u16; LIMIT],
-    count: usize,
-    field: usize,
-    from: Value,
-    best: Value,
-) -> Value
-    requires { (field < field_count) × (There rows.now list.now count × (number from ≤ number best)) }
-    ensures { IntervalEnd (number from) (number best) (number result) (AlikeListed rows.now list.now count field (number from) (number result)) }
+fn end_listed(rows: &[u64], list: &[u16], field: usize, from: Value, best: Value) -> Value
+    requires { (field < field_count) × (There rows.now list.now × (number from ≤ number best)) }
+    ensures { IntervalEnd (number from) (number best) (number result) (AlikeListed rows.now list.now (length list.now) field (number from) (number result)) }
 {
     let mut end = best;
-    let mut i: usize = 0;
-    while i < count {
-        end = range_end(rows, wide(list[i]), field, from, end);
-        i += 1;
+    for &row in list {
+        end = range_end(rows, usize::from(row), field, from, end);
     }
     end
 }
@@ -98,21 +88,17 @@ fn end_listed(
 fn end_of_all(
     rows: &[u64],
     direction: Direction,
-    point: Point,
+    point: &Point,
     field: usize,
     from: Value,
     best: Value,
 ) -> Value
     requires { (field < field_count) × (number from ≤ number best) }
-    ensures { IntervalEnd (number from) (number best) (number result) (AlikeAmong direction rows.now (length rows.now / row_words) field (values_from point.words 0 field) (number from) (number result)) }
+    ensures { IntervalEnd (number from) (number best) (number result) (AlikeAmong direction rows.now (length rows.now / row_words) field (values_from point.now.words 0 field) (number from) (number result)) }
 {
-    let words = point.words;
-    let count = rows.len() / ROW_WORDS;
     let mut end = best;
-    let mut row: usize = 0;
-    while row < count {
-        end = row_end(rows, row, direction, &words, field, from, end);
-        row += 1;
+    for row in 0..rows.len() / ROW_WORDS {
+        end = row_end(rows, row, direction, point, field, from, end);
     }
     end
 }
@@ -122,19 +108,18 @@ fn end_of_all(
 fn end_among(
     rows: &[u64],
     direction: Direction,
-    point: Point,
-    cuts: &[u16; LIMIT],
-    count: usize,
+    point: &Point,
+    cuts: &[u16],
     field: usize,
     from: Value,
     best: Value,
 ) -> Value
     requires field_lt_field_count { (field < field_count) × (number from ≤ number best) }
-    requires cuts_at { CutsAt direction rows.now field (values_from point.words 0 field) cuts.now count }
-    ensures { IntervalEnd (number from) (number best) (number result) (SearchAlike direction rows.now (values_from point.words 0 field) (number from) (number result)) }
+    requires cuts_at { CutsAt direction rows.now field (values_from point.now.words 0 field) cuts.now }
+    ensures { IntervalEnd (number from) (number best) (number result) (SearchAlike direction rows.now (values_from point.now.words 0 field) (number from) (number result)) }
 {
     if rows.len() / ROW_WORDS <= LIMIT {
-        return end_listed(rows, cuts, count, field, from, best);
+        return end_listed(rows, cuts, field, from, best);
     }
     end_of_all(rows, direction, point, field, from, best)
 }
@@ -142,39 +127,26 @@ fn end_among(
 // The last value of the interval that begins at `from`: to it, both policies treat all values alike. The lists have the rows of the policies
 // that may part values of the branch's field.
 pub(crate) fn interval_end(
-    first: &[u64],
-    second: &[u64],
-    task: Task,
-    branch: Branch,
-    cuts: &[u16; LIMIT],
-    other_cuts: &[u16; LIMIT],
+    branch: &Branch,
+    cuts: &[u16],
+    other_cuts: &[u16],
     from: Value,
     top: Value,
 ) -> Value
-    requires field_lt_field_count { (branch.field < field_count) × (number from ≤ number top) }
-    requires cuts_at { CutsAt task.direction first.now branch.field (values_from branch.point.words 0 branch.field) cuts.now branch.firsts }
-    requires cuts_at_2 { CutsAt task.direction second.now branch.field (values_from branch.point.words 0 branch.field) other_cuts.now branch.seconds }
-    ensures { IntervalEnd (number from) (number top) (number result) (SearchAlike task.direction first.now (values_from branch.point.words 0 branch.field) (number from) (number result) × SearchAlike task.direction second.now (values_from branch.point.words 0 branch.field) (number from) (number result)) }
+    requires field_lt_field_count { (branch.now.field < field_count) × (number from ≤ number top) }
+    requires cuts_at { CutsAt branch.now.task.now.direction branch.now.first.now branch.now.field (values_from branch.now.point.words 0 branch.now.field) cuts.now }
+    requires cuts_at_2 { CutsAt branch.now.task.now.direction branch.now.second.now branch.now.field (values_from branch.now.point.words 0 branch.now.field) other_cuts.now }
+    ensures { IntervalEnd (number from) (number top) (number result) (SearchAlike branch.now.task.now.direction branch.now.first.now (values_from branch.now.point.words 0 branch.now.field) (number from) (number result) × SearchAlike branch.now.task.now.direction branch.now.second.now (values_from branch.now.point.words 0 branch.now.field) (number from) (number result)) }
 {
-    let direction = task.direction;
-    let point = branch.point;
+    let direction = branch.task.direction;
+    let point = &branch.point;
     let field = branch.field;
-    let best = end_among(
-        first,
-        direction,
-        point,
-        cuts,
-        branch.firsts,
-        field,
-        from,
-        top,
-    );
+    let best = end_among(branch.first, direction, point, cuts, field, from, top);
     end_among(
-        second,
+        branch.second,
         direction,
         point,
         other_cuts,
-        branch.seconds,
         field,
         from,
         best,

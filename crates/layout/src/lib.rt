@@ -1,6 +1,7 @@
 // Lays policies out into their normal form, and two policies into their difference (document 01, 'One normal form').
 #![tactic(auto)]
 
+mod branch;
 mod intervals;
 mod lists;
 mod room;
@@ -11,16 +12,17 @@ ghost use Rattle.selectors.specs.Value.{number};
 ghost use Rattle.selectors.specs.Words.{field_count};
 ghost use Rattle.policy.specs.Words.{policy_rows};
 ghost use Rattle.layout.specs.Laid.{sizes_of, Outcome};
-ghost use Rattle.layout.specs.Lists.{BranchAt};
 ghost use Rattle.layout.specs.Parting.{difference_form};
 ghost use Rattle.layout.specs.Steps.{LaidOut, field_form, value_form, words_for};
 ghost use Rattle.layout.specs.Stretches.{StretchOut};
 
+use crate::branch::{Branch, Task};
 use crate::intervals::interval_end;
 use crate::lists::{narrow, rows_for, with_value};
 use crate::room::{place_stretch, stamp};
-use crate::stretches::{is_over, joined, known_alike, leaf, stretch_of};
+use crate::stretches::{joined, known_alike, leaf};
 use agree::cutting;
+use arrayvec::ArrayVec;
 use policy::{LIMIT, ROW_WORDS};
 use selectors::words::{FIELDS, SELECTOR_WORDS, VALUE_WORDS, value_at};
 use selectors::{Direction, Value};
@@ -34,42 +36,13 @@ pub struct Point {
     pub words: [u64; SELECTOR_WORDS],
 }
 
-#[derive(Clone, Copy)]
-pub enum Laid {
-    // The count of the rows.
-    Rows(usize),
+// Why nothing is laid out.
+#[derive(Clone, Copy, Debug, PartialEq, Eq)]
+pub enum LayoutError {
     // More rows than the limit.
     Over,
+    // Less room than the limit asks for.
     NoRoom,
-}
-
-// What is laid out behind a value of a field.
-#[derive(Clone, Copy)]
-enum Stretch {
-    // The count of the rows.
-    Rows(usize),
-    // The same rows as behind the value before.
-    Again,
-    // More rows than the limit.
-    Over,
-}
-
-// What a layout is asked for.
-#[derive(Clone, Copy)]
-struct Task {
-    direction: Direction,
-    highest: Point,
-    limit: usize,
-}
-
-// A field that is to be laid out behind the point's values of those before it, and how many rows of each policy hold these. The lists of
-// those rows, by their places, are lent beside it.
-#[derive(Clone, Copy)]
-struct Branch {
-    field: usize,
-    point: Point,
-    firsts: usize,
-    seconds: usize,
 }
 
 // The rows from `last` to `next` are those of the last interval, which begins at the value `low`; those before it are done.
@@ -88,108 +61,80 @@ const START: Kept = Kept {
     low: ZERO,
 };
 
-// Lays out what follows the field at its value `from`, unless it is known to be what follows the value before, or nothing: the next field, or
-// the leaf where none is left.
+// Lays out what follows the branch's field at its value `from`: the next field, or the leaf where none is left. None: it is known to be what
+// follows the value before.
 #[cycle(layout_field_layout_stretch)]
 fn layout_stretch(
-    first: &[u64],
-    second: &[u64],
-    task: Task,
-    branch: Branch,
-    of_first: &[u16; LIMIT],
-    of_second: &[u16; LIMIT],
+    branch: &Branch,
     from: Value,
     room: &mut [u64],
-) -> Stretch
-    requires field_lt_field_count { (branch.field < field_count) × BranchAt task.direction first.now second.now branch.field branch of_first.now of_second.now }
-    requires field_in_bounds { words_for task.limit (field_count - (branch.field + 1)) ≤ length room.old }
-    ensures { StretchOut task.limit (branch.field + 1) (field_count - (branch.field + 1)) (number from) (value_form first.now second.now task branch.point branch.field) room.new result }
+) -> Result<Option<usize>, LayoutError>
+    requires field_lt_field_count { branch.now.field < field_count }
+    requires field_in_bounds { words_for branch.now.task.now.limit (field_count - (branch.now.field + 1)) ≤ length room.old }
+    ensures { StretchOut branch.now.task.now.limit (branch.now.field + 1) (field_count - (branch.now.field + 1)) (number from) (value_form branch.now.first.now branch.now.second.now branch.now.task.now branch.now.point branch.now.field) room.new result }
 {
-    if joined(first, second, task, branch, of_first, of_second, from) {
-        return Stretch::Again;
+    if joined(branch, from) {
+        return Ok(None);
     }
-    let mut in_first = [0u16; LIMIT];
-    let mut in_second = [0u16; LIMIT];
-    let field = branch.field;
-    let point = with_value(branch.point, field, from);
-    let firsts = narrow(first, of_first, branch.firsts, field, from, &mut in_first);
-    let seconds = narrow(
+    let task = branch.task;
+    let first = branch.first;
+    let second = branch.second;
+    let mut of_first = ArrayVec::<u16, LIMIT>::new();
+    let mut of_second = ArrayVec::<u16, LIMIT>::new();
+    narrow(first, branch.of_first, branch.field, from, &mut of_first);
+    narrow(second, branch.of_second, branch.field, from, &mut of_second);
+    let inner = Branch {
+        task,
+        first,
         second,
-        of_second,
-        branch.seconds,
-        field,
-        from,
-        &mut in_second,
-    );
-    let inner = field + 1;
-    let here = Branch {
-        field: inner,
-        point,
-        firsts,
-        seconds,
+        field: branch.field + 1,
+        point: with_value(branch.point, branch.field, from),
+        of_first: &of_first,
+        of_second: &of_second,
     };
-    if inner == FIELDS {
-        return stretch_of(leaf(first, second, task, here, &in_first, &in_second, room));
+    if inner.field == FIELDS {
+        return Ok(Some(leaf(&inner, room)?));
     }
-    if known_alike(first, second, task, here, &in_first, &in_second) {
-        return Stretch::Rows(0);
+    if known_alike(&inner) {
+        return Ok(Some(0));
     }
-    stretch_of(layout_field(first, second, task, here, &in_first, &in_second, room))
+    Ok(Some(layout_field(&inner, room)?))
 }
 
 // Lays out the branch's field and those after it: from interval to interval, each of which is laid out into the rest of the room.
 #[cycle(layout_field_layout_stretch)]
-fn layout_field(
-    first: &[u64],
-    second: &[u64],
-    task: Task,
-    branch: Branch,
-    of_first: &[u16; LIMIT],
-    of_second: &[u16; LIMIT],
-    room: &mut [u64],
-) -> Laid
-    requires field_lt_field_count { (branch.field < field_count) × BranchAt task.direction first.now second.now branch.field branch of_first.now of_second.now }
-    requires field_in_bounds { words_for task.limit (field_count - branch.field) ≤ length room.old }
-    ensures { LaidOut task.limit branch.field (field_count - branch.field) (field_form first.now second.now task branch.point branch.field) room.new result }
+fn layout_field(branch: &Branch, room: &mut [u64]) -> Result<usize, LayoutError>
+    requires field_lt_field_count { branch.now.field < field_count }
+    requires field_in_bounds { words_for branch.now.task.now.limit (field_count - branch.now.field) ≤ length room.old }
+    ensures { LaidOut branch.now.task.now.limit branch.now.field (field_count - branch.now.field) (field_form branch.now.first.now branch.now.second.now branch.now.task.now branch.now.point branch.now.field) room.new result }
 {
     let field = branch.field;
-    let highest = task.highest.words;
-    let top = value_at(&highest, VALUE_WORDS * field);
-    let point = branch.point;
-    let mut cuts = [0u16; LIMIT];
-    let mut other_cuts = [0u16; LIMIT];
-    let firsts = cutting(first, of_first, branch.firsts, field, &mut cuts);
-    let seconds = cutting(second, of_second, branch.seconds, field, &mut other_cuts);
-    let cutters = Branch {
-        field,
-        point,
-        firsts,
-        seconds,
-    };
+    let limit = branch.task.limit;
+    let top = value_at(&branch.task.highest.words, VALUE_WORDS * field);
+    let mut cuts = ArrayVec::<u16, LIMIT>::new();
+    let mut other_cuts = ArrayVec::<u16, LIMIT>::new();
+    cutting(branch.first, branch.of_first, field, &mut cuts);
+    cutting(branch.second, branch.of_second, field, &mut other_cuts);
     let mut kept = START;
     let mut from = ZERO;
     loop {
-        let end = interval_end(first, second, task, cutters, &cuts, &other_cuts, from, top);
+        let end = interval_end(branch, &cuts, &other_cuts, from, top);
         let base = kept.next * ROW_WORDS;
-        let rest = &mut room[base..];
-        let laid = layout_stretch(first, second, task, branch, of_first, of_second, from, rest);
-        if is_over(laid) {
-            return Laid::Over;
-        }
+        let laid = layout_stretch(branch, from, &mut room[base..])?;
         kept = place_stretch(room, kept, laid, field, from);
         let next = kept.next;
-        if task.limit < next {
-            return Laid::Over;
+        if limit < next {
+            return Err(LayoutError::Over);
         }
         if !end.less(top) {
             stamp(room, kept.last, next, field, kept.low, top);
-            return Laid::Rows(next);
+            return Ok(next);
         }
         from = end.next();
     }
 }
 
-// Lays out where the policies of two lists of rows part for a direction, or with no second list the normal form of the first.
+// Lays out where the policies of two lists of rows part for a direction, or with no second list the normal form of the first, and counts the rows.
 // `highest` has the highest value of each field. The rows, at most `limit`, stand at the start of the room; the rest of the room is
 // scratch, and what it holds afterwards is left open. NoRoom is answered before anything is written.
 pub fn layout(
@@ -199,31 +144,34 @@ pub fn layout(
     highest: Point,
     limit: usize,
     room: &mut [u64],
-) -> Laid
+) -> Result<usize, LayoutError>
     ensures { Outcome limit (difference_form (sizes_of highest) direction (policy_rows first.now) (policy_rows second.now)) room.old room.new result }
 {
     if room.len() / ROOM_WORDS < limit {
-        return Laid::NoRoom;
+        return Err(LayoutError::NoRoom);
     }
-    let mut of_first = [0u16; LIMIT];
-    let mut of_second = [0u16; LIMIT];
-    let firsts = rows_for(first, direction, &mut of_first);
-    let seconds = rows_for(second, direction, &mut of_second);
-    let branch = Branch {
-        field: 0,
-        point: Point {
-            words: [0; SELECTOR_WORDS],
-        },
-        firsts,
-        seconds,
-    };
     let task = Task {
         direction,
         highest,
         limit,
     };
-    if known_alike(first, second, task, branch, &of_first, &of_second) {
-        return Laid::Rows(0);
+    let mut of_first = ArrayVec::<u16, LIMIT>::new();
+    let mut of_second = ArrayVec::<u16, LIMIT>::new();
+    rows_for(first, direction, &mut of_first);
+    rows_for(second, direction, &mut of_second);
+    let branch = Branch {
+        task: &task,
+        first,
+        second,
+        field: 0,
+        point: Point {
+            words: [0; SELECTOR_WORDS],
+        },
+        of_first: &of_first,
+        of_second: &of_second,
+    };
+    if known_alike(&branch) {
+        return Ok(0);
     }
-    layout_field(first, second, task, branch, &of_first, &of_second, room)
+    layout_field(&branch, room)
 }

@@ -1,16 +1,16 @@
 // Lists of the rows that are active, for the direction and holding a point's values, and the action that they give.
-ghost use Rattle.std.specs.Prelude.{◌≡◌, [], ◌+◌, ◌*◌, ◌≤◌, ◌<◌, min, length};
+ghost use Rattle.std.specs.Prelude.{◌≡◌, [], ◌+◌, ◌*◌, ◌≤◌, ◌<◌, length};
 ghost use Rattle.std.proofs.lemmas.List.Edits.{sets};
 ghost use Rattle.selectors.specs.Value.{number};
 ghost use Rattle.selectors.specs.Words.{field_count, value_words, ends_at, values_from, words_of_value};
 ghost use Rattle.policy.specs.Policy.{ordered_search};
-ghost use Rattle.policy.specs.Words.{policy_rows, action_word, row_words, row_limit};
+ghost use Rattle.policy.specs.Words.{policy_rows, action_word, row_words};
 ghost use Rattle.agree.specs.Sides.{There};
 ghost use Rattle.layout.specs.Decode.{word_of, active as isActive};
 ghost use Rattle.layout.specs.Lists.{Lists, Narrowed};
 
 use crate::Point;
-use cover::wide;
+use arrayvec::ArrayVec;
 use policy::{Found, HEAD_WORDS, LIMIT, ROW_WORDS, direction_of, first_match};
 use selectors::words::{
     RANGE_WORDS, SELECTOR_WORDS, VALUE_WORDS, ends_at, put_value, ranges_hold, selectors_of,
@@ -54,83 +54,54 @@ pub(crate) fn row_range(rows: &[u64], row: usize, field: usize) -> Ends
     ends_at(&rows[at..end], 0)
 }
 
-// How many of so many rows are listed: the limit's at the most. Rows of a policy beyond them are asked one by one.
-fn listable(total: usize) -> usize
-    ensures { result ≡ min total row_limit }
-{
-    if total < LIMIT {
-        return total;
-    }
-    LIMIT
-}
-
-// Lists the rows for the direction, and counts them.
-pub(crate) fn rows_for(rows: &[u64], direction: Direction, list: &mut [u16; LIMIT]) -> usize
-    requires { length list.old ≡ row_limit }
-    ensures { Lists direction rows.now 0 [] list.new result }
+// Lists the rows for the direction, of the first ones of a policy, as many as the limit of a list. Those of a policy beyond them are asked one by one.
+pub(crate) fn rows_for(rows: &[u64], direction: Direction, list: &mut ArrayVec<u16, LIMIT>)
+    ensures { Lists direction rows.now 0 [] list.new.items }
 {
     let nowhere = [0u64; SELECTOR_WORDS];
-    let total = listable(rows.len() / ROW_WORDS);
-    let mut count: usize = 0;
-    let mut row: usize = 0;
-    while row < total {
-        list[count] = row as u16;
+    let listed = (rows.len() / ROW_WORDS).min(LIMIT);
+    list.clear();
+    for row in 0..listed {
         if active(rows, row, direction, &nowhere, 0) {
-            count += 1;
+            list.push(row as u16);
         }
-        row += 1;
     }
-    count
 }
 
-// Lists those of the first `total` listed rows whose ranges of the field hold the value, and counts them.
+// Lists those of the listed rows whose ranges of the field hold the value.
 pub(crate) fn narrow(
     rows: &[u64],
-    old: &[u16; LIMIT],
-    total: usize,
+    old: &[u16],
     field: usize,
     value: Value,
-    list: &mut [u16; LIMIT],
-) -> usize
-    requires field_lt_field_count { (field < field_count) × There rows.now old.now total }
-    requires list_len { length list.old ≡ row_limit }
-    ensures { Narrowed rows.now field (number value) old.now total list.new result }
+    list: &mut ArrayVec<u16, LIMIT>,
+)
+    requires { (field < field_count) × There rows.now old.now }
+    ensures { Narrowed rows.now field (number value) old.now list.new.items }
 {
-    let mut count: usize = 0;
-    let mut i: usize = 0;
-    while i < total {
-        let row = old[i];
-        list[count] = row;
-        let range = row_range(rows, wide(row), field);
+    list.clear();
+    for &row in old {
+        let range = row_range(rows, usize::from(row), field);
         let low = range.low;
         let high = range.high;
         if (AddressRange { low, high }).holds(value) {
-            count += 1;
+            list.push(row);
         }
-        i += 1;
     }
-    count
 }
 
 // The word of the action that the ordered search finds at the point, whose values the listed rows hold.
-pub(crate) fn action_at(
-    rows: &[u64],
-    direction: Direction,
-    point: Point,
-    list: &[u16; LIMIT],
-    count: usize,
-) -> u64
-    requires { Lists direction rows.now field_count (values_from point.words 0 field_count) list.now count }
-    ensures { result ≡ action_word (ordered_search direction (policy_rows rows.now) (values_from point.words 0 field_count)) }
+pub(crate) fn action_at(rows: &[u64], direction: Direction, point: &Point, list: &[u16]) -> u64
+    requires { Lists direction rows.now field_count (values_from point.now.words 0 field_count) list.now }
+    ensures { result ≡ action_word (ordered_search direction (policy_rows rows.now) (values_from point.now.words 0 field_count)) }
 {
-    if 0 < count {
-        return rows[wide(list[0]) * ROW_WORDS + 1];
+    if let [row, ..] = list {
+        return rows[usize::from(*row) * ROW_WORDS + 1];
     }
     if rows.len() / ROW_WORDS <= LIMIT {
         return 0;
     }
-    let words = point.words;
-    let found = first_match(rows, direction, selectors_of(&words));
+    let found = first_match(rows, direction, selectors_of(&point.words));
     let Found::Row(row) = found else {
         return 0;
     };

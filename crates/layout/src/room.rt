@@ -1,5 +1,5 @@
 // The rows of a layout in the room: whether blocks of them are the same, and the range that a field puts in front of them.
-ghost use Rattle.std.specs.Prelude.{◌≡◌, true, ◌↔◌, ℕ, ◌+◌, ◌-◌, ◌*◌, ◌≤◌, ◌<◌, length};
+ghost use Rattle.std.specs.Prelude.{◌≡◌, true, ◌↔◌, ℕ, ◌+◌, ◌-◌, ◌*◌, ◌≤◌, ◌<◌, length, Some};
 ghost use Rattle.selectors.specs.Range.{same_range};
 ghost use Rattle.selectors.specs.Value.{number};
 ghost use Rattle.selectors.specs.Words.{field_count, range_at};
@@ -7,9 +7,8 @@ ghost use Rattle.policy.specs.Words.{row_words};
 ghost use Rattle.layout.specs.Decode.{row_ranges, part_row, part_rows};
 ghost use Rattle.layout.specs.Steps.{Stamped, Placed};
 ghost use Rattle.layout.specs.Stretches.{PlacedStretch};
-ghost use Rattle.layout.specs.declared.Stretch.TheVariants.{Rows as StretchRows};
 
-use crate::{Kept, Stretch};
+use crate::Kept;
 use policy::{HEAD_WORDS, ROW_WORDS};
 use selectors::words::{FIELDS, RANGE_WORDS, ends_at, put_ends};
 use selectors::{Ends, Value};
@@ -32,12 +31,10 @@ fn same_ranges(room: &[u64], a: usize, b: usize, field: usize) -> bool
 {
     let left = a * ROW_WORDS + HEAD_WORDS;
     let right = b * ROW_WORDS + HEAD_WORDS;
-    let mut f = field;
-    while f < FIELDS {
+    for f in field..FIELDS {
         if !same_range(room, left + RANGE_WORDS * f, right + RANGE_WORDS * f) {
             return false;
         }
-        f += 1;
     }
     true
 }
@@ -61,12 +58,10 @@ fn same_rows(room: &[u64], a: usize, b: usize, count: usize, field: usize) -> bo
     requires { (field ≤ field_count) × (((a + count) * row_words ≤ length room.now) × ((b + count) * row_words ≤ length room.now)) }
     ensures { (result ≡ true) ↔ (part_rows field (field_count - field) room.now a count ≡ part_rows field (field_count - field) room.now b count) }
 {
-    let mut i: usize = 0;
-    while i < count {
+    for i in 0..count {
         if !same_row(room, a + i, b + i, field) {
             return false;
         }
-        i += 1;
     }
     true
 }
@@ -85,10 +80,8 @@ pub(crate) fn stamp(room: &mut [u64], a: usize, b: usize, field: usize, low: Val
     requires { (field < field_count) × ((a ≤ b) × (b * row_words ≤ length room.old)) }
     ensures { Stamped field (field_count - (field + 1)) a b (number low) (number high) room.old room.new }
 {
-    let mut row = a;
-    while row < b {
+    for row in a..b {
         stamp_row(room, row, field, low, high);
-        row += 1;
     }
 }
 
@@ -125,17 +118,16 @@ fn place(room: &mut [u64], kept: Kept, count: usize, field: usize, from: Value) 
 pub(crate) fn place_stretch(
     room: &mut [u64],
     kept: Kept,
-    laid: Stretch,
+    laid: Option<usize>,
     field: usize,
     from: Value,
 ) -> Kept
     requires field_lt_field_count { (field < field_count) × (kept.last ≤ kept.next) }
-    requires by_index { (count : ℕ) → laid ≡ StretchRows count → (kept.next + count) * row_words ≤ length room.old }
+    requires by_index { (count : ℕ) → laid ≡ Some count → (kept.next + count) * row_words ≤ length room.old }
     ensures { PlacedStretch field (field_count - (field + 1)) kept laid (number from) room.old room.new result }
 {
     match laid {
-        Stretch::Rows(count) => place(room, kept, count, field, from),
-        Stretch::Again => kept,
-        Stretch::Over => kept,
+        Some(count) => place(room, kept, count, field, from),
+        None => kept,
     }
 }

@@ -3,12 +3,12 @@ ghost use Rattle.std.specs.Prelude.{◌≡◌, true, [], ◌/◌, ◌*◌, ◌�
 ghost use Rattle.selectors.specs.Value.{number};
 ghost use Rattle.selectors.specs.Words.{field_count};
 ghost use Rattle.policy.specs.Words.{row_words, row_limit};
-ghost use Rattle.layout.specs.Lists.{BranchAt};
 ghost use Rattle.layout.specs.Steps.{LaidOut, field_form, value_form};
-ghost use Rattle.layout.specs.Stretches.{is_over, stretch_of, Joins, Whole};
+ghost use Rattle.layout.specs.Stretches.{Joins, Whole};
 
+use crate::branch::Branch;
 use crate::lists::action_at;
-use crate::{Branch, Laid, Point, Stretch, Task, ZERO};
+use crate::{LayoutError, Point, ZERO};
 use agree::{agree, same_behind};
 use cover::Bounds;
 use policy::{LIMIT, ROW_WORDS};
@@ -16,59 +16,30 @@ use selectors::Value;
 use selectors::words::FIELDS;
 
 // Behind the last field stands the leaf, if the two policies part there.
-pub(crate) fn leaf(
-    first: &[u64],
-    second: &[u64],
-    task: Task,
-    branch: Branch,
-    of_first: &[u16; LIMIT],
-    of_second: &[u16; LIMIT],
-    room: &mut [u64],
-) -> Laid
-    requires { (task.limit * row_words ≤ length room.old) × BranchAt task.direction first.now second.now field_count branch of_first.now of_second.now }
-    ensures { LaidOut task.limit field_count 0 (field_form first.now second.now task branch.point field_count) room.new result }
+pub(crate) fn leaf(branch: &Branch, room: &mut [u64]) -> Result<usize, LayoutError>
+    requires at_end { branch.now.field ≡ field_count }
+    requires room_fits { branch.now.task.now.limit * row_words ≤ length room.old }
+    ensures { LaidOut branch.now.task.now.limit field_count 0 (field_form branch.now.first.now branch.now.second.now branch.now.task.now branch.now.point field_count) room.new result }
 {
-    let direction = task.direction;
-    let point = branch.point;
-    let action = action_at(first, direction, point, of_first, branch.firsts);
-    let other = action_at(second, direction, point, of_second, branch.seconds);
+    let direction = branch.task.direction;
+    let action = action_at(branch.first, direction, &branch.point, branch.of_first);
+    let other = action_at(branch.second, direction, &branch.point, branch.of_second);
     if action == other {
-        return Laid::Rows(0);
+        return Ok(0);
     }
-    if task.limit == 0 {
-        return Laid::Over;
+    if branch.task.limit == 0 {
+        return Err(LayoutError::Over);
     }
     room[0] = other;
     room[1] = action;
-    Laid::Rows(1)
-}
-
-pub(crate) fn is_over(laid: Stretch) -> bool
-    ensures { result ≡ is_over laid }
-{
-    match laid {
-        Stretch::Rows(_) => false,
-        Stretch::Again => false,
-        Stretch::Over => true,
-    }
-}
-
-// A layout as what is laid out behind a value.
-pub(crate) fn stretch_of(laid: Laid) -> Stretch
-    ensures { result ≡ stretch_of laid }
-{
-    match laid {
-        Laid::Rows(count) => Stretch::Rows(count),
-        Laid::Over => Stretch::Over,
-        Laid::NoRoom => Stretch::Over,
-    }
+    Ok(1)
 }
 
 // The box of all values, by the highest value of each field.
-fn box_of(highest: Point) -> Bounds
-    ensures { Whole highest result.words }
+fn box_of(highest: &Point) -> Bounds
+    ensures { Whole highest.now result.words }
 {
-    let t = highest.words;
+    let t = &highest.words;
     Bounds {
         words: [
             0, 0, t[0], t[1], 0, 0, t[2], t[3], 0, 0, t[4], t[5], 0, 0, t[6], t[7], 0, 0, t[8],
@@ -81,26 +52,17 @@ fn box_of(highest: Point) -> Bounds
 fn all_listed(first: &[u64], second: &[u64]) -> bool
     ensures { result ≡ true → (length first.now / row_words ≤ row_limit) × (length second.now / row_words ≤ row_limit) }
 {
-    if LIMIT < first.len() / ROW_WORDS {
-        return false;
-    }
-    second.len() / ROW_WORDS <= LIMIT
+    first.len() / ROW_WORDS <= LIMIT && second.len() / ROW_WORDS <= LIMIT
 }
 
 // Whether both policies are known to treat the value `from` of the branch's field like the one before it.
-pub(crate) fn joined(
-    first: &[u64],
-    second: &[u64],
-    task: Task,
-    branch: Branch,
-    of_first: &[u16; LIMIT],
-    of_second: &[u16; LIMIT],
-    from: Value,
-) -> bool
-    requires { (branch.field < field_count) × BranchAt task.direction first.now second.now branch.field branch of_first.now of_second.now }
-    ensures { result ≡ true → Joins (number from) (value_form first.now second.now task branch.point branch.field) }
+pub(crate) fn joined(branch: &Branch, from: Value) -> bool
+    requires { branch.now.field < field_count }
+    ensures { result ≡ true → Joins (number from) (value_form branch.now.first.now branch.now.second.now branch.now.task.now branch.now.point branch.now.field) }
 {
     let field = branch.field;
+    let first = branch.first;
+    let second = branch.second;
     if field + 1 == FIELDS {
         return false;
     }
@@ -110,45 +72,27 @@ pub(crate) fn joined(
     if !all_listed(first, second) {
         return false;
     }
-    let bounds = box_of(task.highest);
+    let bounds = box_of(&branch.task.highest);
     let below = from.previous();
-    if !same_behind(first, of_first, branch.firsts, field, below, from, bounds) {
-        return false;
-    }
-    same_behind(
-        second,
-        of_second,
-        branch.seconds,
-        field,
-        below,
-        from,
-        bounds,
-    )
+    same_behind(first, branch.of_first, field, below, from, bounds)
+        && same_behind(second, branch.of_second, field, below, from, bounds)
 }
 
 // Whether both policies are known to agree behind the branch's point, whatever its field and those after it hold.
-pub(crate) fn known_alike(
-    first: &[u64],
-    second: &[u64],
-    task: Task,
-    branch: Branch,
-    of_first: &[u16; LIMIT],
-    of_second: &[u16; LIMIT],
-) -> bool
-    requires { (branch.field < field_count) × BranchAt task.direction first.now second.now branch.field branch of_first.now of_second.now }
-    ensures { result ≡ true → field_form first.now second.now task branch.point branch.field ≡ [] }
+pub(crate) fn known_alike(branch: &Branch) -> bool
+    ensures { result ≡ true → field_form branch.now.first.now branch.now.second.now branch.now.task.now branch.now.point branch.now.field ≡ [] }
 {
+    let first = branch.first;
+    let second = branch.second;
     if !all_listed(first, second) {
         return false;
     }
-    let bounds = box_of(task.highest);
+    let bounds = box_of(&branch.task.highest);
     agree(
         first,
-        of_first,
-        branch.firsts,
+        branch.of_first,
         second,
-        of_second,
-        branch.seconds,
+        branch.of_second,
         branch.field,
         bounds,
     )

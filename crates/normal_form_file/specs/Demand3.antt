@@ -2,7 +2,7 @@
 -- A policy is any file that 23, 24, 21 and 20 let through: `parse_policy limit s ≡ rows (rules e rs)`, of which e is the edition and rs are the
 -- rows. 'Its normal form for a way is laid out whole, however many rows that makes; the normal-form file is that, printed': `form_file d`.
 -- Two policies are two of one edition.
-use Rattle.std.specs.Prelude.{ℕ, ◌≤◌, ◌<◌, ◌≡◌, refl, Bool, true, false, cond, ◌↔◌, leb, length, drop}
+use Rattle.std.specs.Prelude.{ℕ, ◌≤◌, ◌<◌, ◌≡◌, refl, Bool, true, false, Result, Ok, Err, cond, ◌↔◌, leb, length, drop}
 use Rattle.std.proofs.Common.{arith, le-leb}
 use Rattle.std.proofs.Math.Decide.{dec_le}
 use Rattle.std.proofs.Math.Path.{ap}
@@ -23,8 +23,8 @@ use Rattle.policy_round_trip.proofs.InjectiveLaws.{printing_injective}
 use Rattle.policy_round_trip.proofs.AcceptedLaws.{parse_printable}
 use Rattle.policy_round_trip.proofs.NormalFormsLaws.{normal_form_printable}
 use Rattle.decorrelate.specs.Form.{form}
-use Rattle.normal_form_file.specs.declared.Normalised.{Normalised}
-use Rattle.normal_form_file.specs.declared.Normalised.TheVariants.{Printed, TooLarge, NoRoom}
+use Rattle.normal_form_file.specs.declared.NormaliseError.{NormaliseError}
+use Rattle.normal_form_file.specs.declared.NormaliseError.TheVariants.{TooLarge, NoRoom}
 use Rattle.normal_form_file.specs.Normalise.{form_file, normalised, bytes_after, normalised_bytes}
 
 -- Rows read as a policy of one direction are the same rows.
@@ -42,12 +42,12 @@ policy_back d (r ∷ L) (q ∷ M) e =
 
 -- What a policy within the limit prints into room for its file.
 prints : (limit : ℕ) (d : Direction) (rs : Rules) (room : List ℕ) → length (form d rs) ≤ limit → length (form_file d rs) ≤ length room
-    → (normalised limit d (length room) (rows rs) ≡ Printed (length (form_file d rs)))
+    → (normalised limit d (length room) (rows rs) ≡ Ok (length (form_file d rs)))
     × (normalised_bytes limit d room (rows rs) ≡ form_file d rs ++ drop (length (form_file d rs)) room)
 prints limit d rs room within fits =
-    let e : normalised limit d (length room) (rows rs) ≡ Printed (length (form_file d rs))
+    let e : normalised limit d (length room) (rows rs) ≡ Ok (length (form_file d rs))
     = rw (le-leb (length (form d rs)) limit within, le-leb (length (form_file d rs)) (length room) fits) in
-    (e, ap (λ (a : Normalised). bytes_after d rs a room) e)
+    (e, ap (λ (a : Result ℕ NormaliseError). bytes_after d rs a room) e)
 
 module _ (limit : ℕ) (d : Direction) (e : Edition) (s : List ℕ) (rs : List PolicyRow) (policy : parse_policy limit s ≡ rows (rules e rs)) where
   -- The rows of its normal form, read as a policy.
@@ -87,13 +87,13 @@ module _ (limit : ℕ) (d : Direction) (e : Edition) (s : List ℕ) (rs : List P
 
     -- 'Given room for the file, normalising either policy for that way prints its normal-form file as document 01 lays it out.'
     pub normalising_prints : (room : List ℕ) → length (form_file d (rules e rs)) ≤ length room
-        → (normalised limit d (length room) (parse_policy limit s) ≡ Printed (length (form_file d (rules e rs))))
+        → (normalised limit d (length room) (parse_policy limit s) ≡ Ok (length (form_file d (rules e rs))))
         × (normalised_bytes limit d room (parse_policy limit s) ≡ form_file d (rules e rs) ++ drop (length (form_file d (rules e rs))) room)
     normalising_prints room fits = rw policy (prints limit d (rules e rs) room within fits)
 
     -- 'Normalising either normal-form file again for that way gives the same file, byte for byte.'
     pub normalising-form_file : (room : List ℕ) → length (form_file d (rules e rs)) ≤ length room
-        → (normalised limit d (length room) (parse_policy limit (form_file d (rules e rs))) ≡ Printed (length (form_file d (rules e rs))))
+        → (normalised limit d (length room) (parse_policy limit (form_file d (rules e rs))) ≡ Ok (length (form_file d (rules e rs))))
         × (normalised_bytes limit d room (parse_policy limit (form_file d (rules e rs)))
         ≡ form_file d (rules e rs) ++ drop (length (form_file d (rules e rs))) room)
     normalising-form_file room fits =
@@ -103,15 +103,15 @@ module _ (limit : ℕ) (d : Direction) (e : Edition) (s : List ℕ) (rs : List P
         rw (form_file_parses, ← file) (prints limit d form2 room (rw again within) (rw file fits))
 
   -- 'Normalising any policy for one way is refused for size exactly when its normal form for that way is over that limit.'
-  pub refused_for_size : (room : ℕ) → (normalised limit d room (parse_policy limit s) ≡ TooLarge d) ↔ (limit < length (form d (rules e rs)))
+  pub refused_for_size : (room : ℕ) → (normalised limit d room (parse_policy limit s) ≡ Err (TooLarge d)) ↔ (limit < length (form d (rules e rs)))
   refused_for_size room = rw policy (by (dec_le (length (form d (rules e rs))) limit))
     where
-      fitted : (b : Bool) → cond b (Printed (length (form_file d (rules e rs)))) NoRoom ≡ TooLarge d → ⊥
+      fitted : (b : Bool) → cond b (Ok (length (form_file d (rules e rs)))) (Err NoRoom) ≡ Err (TooLarge d) → ⊥
       fitted true f = let z : ◌≡◌ {A = ℕ} 0 1 = cc in omega arith
       fitted false f = let z : ◌≡◌ {A = ℕ} 0 1 = cc in omega arith
 
       by : Dec (length (form d (rules e rs)) ≤ limit)
-          → (normalised limit d room (rows (rules e rs)) ≡ TooLarge d) ↔ (limit < length (form d (rules e rs)))
+          → (normalised limit d room (rows (rules e rs)) ≡ Err (TooLarge d)) ↔ (limit < length (form d (rules e rs)))
       by (yes h) = (
         λ f. absurd (fitted (leb (length (form_file d (rules e rs))) room) (rw (le-leb (length (form d (rules e rs))) limit h) at f)),
         λ g. absurd (omega arith),

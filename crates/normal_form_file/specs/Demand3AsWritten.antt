@@ -1,6 +1,6 @@
 -- Demand 3, sentence by sentence, of the rows that document 01 describes: `FormAsWritten d rs L`, in which nothing is computed. Assumes nothing.
 -- As in Demand3.antt, a policy is a file with `parse_policy limit s ≡ rows (rules e rs)`. Its normal-form file is those rows, printed: `file_of_rows e d L`.
-use Rattle.std.specs.Prelude.{ℕ, ◌≤◌, ◌<◌, ◌≡◌, List, ◌++◌, ◌↔◌, length, drop}
+use Rattle.std.specs.Prelude.{ℕ, ◌≤◌, ◌<◌, ◌≡◌, Ok, Err, List, ◌++◌, ◌↔◌, length, drop}
 use Rattle.std.proofs.Common.{ap}
 use Rattle.selectors.specs.declared.Direction.{Direction}
 use Rattle.normal_form.specs.Search.{Row, Combination}
@@ -14,7 +14,7 @@ use Rattle.policy_text.specs.declared.Edition.{Edition}
 use Rattle.policy_text.specs.Editions.{format_of, edition_sizes, Rules, rules, rows, parse_policy}
 use Rattle.policy_text.specs.Print.{policy_text}
 use Rattle.decorrelate.specs.Form.{form}
-use Rattle.normal_form_file.specs.declared.Normalised.TheVariants.{Printed, TooLarge}
+use Rattle.normal_form_file.specs.declared.NormaliseError.TheVariants.{TooLarge}
 use Rattle.normal_form_file.specs.Normalise.{form_file, normalised, normalised_bytes}
 use Rattle.normal_form_file.specs.Demand3.{files_equal, searching-form_file, normalising_prints, normalising-form_file, refused_for_size}
 
@@ -59,7 +59,7 @@ module _ (limit : ℕ) (d : Direction) (e : Edition) (s : List ℕ) (rs : List P
 
     -- 'Given room for the file, normalising either policy for that way prints its normal-form file as document 01 lays it out.'
     pub prints_as_written : (room : List ℕ) → length (file_of_rows e d L) ≤ length room
-        → (normalised limit d (length room) (parse_policy limit s) ≡ Printed (length (file_of_rows e d L)))
+        → (normalised limit d (length room) (parse_policy limit s) ≡ Ok (length (file_of_rows e d L)))
         × (normalised_bytes limit d room (parse_policy limit s) ≡ file_of_rows e d L ++ drop (length (file_of_rows e d L)) room)
     prints_as_written room fits =
         let same : L ≡ form d (rules e rs) = (form_as_written d (rules e rs) L).0 laid in
@@ -67,12 +67,12 @@ module _ (limit : ℕ) (d : Direction) (e : Edition) (s : List ℕ) (rs : List P
 
     -- 'Normalising either normal-form file again for that way gives the same file, byte for byte.'
     pub again_as_written : (room : List ℕ) → length (file_of_rows e d L) ≤ length room
-        → (normalised limit d (length room) (parse_policy limit (file_of_rows e d L)) ≡ Printed (length (file_of_rows e d L)))
+        → (normalised limit d (length room) (parse_policy limit (file_of_rows e d L)) ≡ Ok (length (file_of_rows e d L)))
         × (normalised_bytes limit d room (parse_policy limit (file_of_rows e d L)) ≡ file_of_rows e d L ++ drop (length (file_of_rows e d L)) room)
     again_as_written room fits =
         let same : L ≡ form d (rules e rs) = (form_as_written d (rules e rs) L).0 laid in
         rw same (normalising-form_file limit d e s rs policy (rw same at within) room (rw same at fits))
 
   -- 'Normalising any policy for one way is refused for size exactly when its normal form for that way is over that limit.'
-  pub refused_as_written : (room : ℕ) → (normalised limit d room (parse_policy limit s) ≡ TooLarge d) ↔ (limit < length L)
+  pub refused_as_written : (room : ℕ) → (normalised limit d room (parse_policy limit s) ≡ Err (TooLarge d)) ↔ (limit < length L)
   refused_as_written room = rw ((form_as_written d (rules e rs) L).0 laid) (refused_for_size limit d e s rs policy room)

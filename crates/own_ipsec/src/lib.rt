@@ -1,11 +1,11 @@
 // AH and ESP for the gateway itself (document 01, 'Coming in from outside').
 #![tactic(auto)]
 
-ghost use Rattle.std.specs.Prelude.{◌≡◌, ◌+◌, ◌-◌, ◌≤◌, cond, eqb};
+ghost use Rattle.std.specs.Prelude.{◌≡◌};
 ghost use Rattle.selectors.specs.Value.{number};
-ghost use Rattle.sad.specs.Pairs.{esp_protocol, ah_protocol, pairs};
-ghost use Rattle.verdicts.specs.Calls.{esp_bytes, for_gateway, fragment, esp, least_upper, spi_of, to_ipsec};
-ghost use Rattle.own_ipsec.specs.Own.{own_answer};
+ghost use Rattle.sad.specs.Pairs.{pairs};
+ghost use Rattle.verdicts.specs.Calls.{fragment, to_ipsec};
+ghost use Rattle.own_ipsec.specs.Own.{number_of, least_of, spi_place, own_protocol, own_answer};
 
 use packet::Packet;
 use sad::{AH, ESP, TABLE_WORDS};
@@ -19,119 +19,98 @@ const AH_BYTES: usize = 12;
 
 const AH_SPI_AT: usize = 4;
 
-// What AH or ESP for the gateway is answered; any other packet is not its own.
-#[derive(Clone, Copy)]
-pub enum Own {
-    Answer(Verdict),
-    NotOwn,
+#[derive(Clone, Copy, Debug, PartialEq, Eq)]
+enum Protocol {
+    Esp,
+    Ah,
 }
 
-fn has_protocol(packet: Packet, wanted: u64) -> bool
-    ensures { result ≡ eqb (number packet.selectors.protocol) wanted }
-{
-    let selectors = packet.selectors;
-    let protocol = selectors.protocol;
-    let value = Value {
-        upper: 0,
-        lower: wanted,
-    };
-    protocol.same(value)
+impl Protocol {
+    fn number(self) -> u64
+        ensures { result ≡ number_of self }
+    {
+        match self {
+            Protocol::Esp => ESP,
+            Protocol::Ah => AH,
+        }
+    }
+
+    // The fewest bytes that an upper part may have.
+    fn least_upper(self) -> usize
+        ensures { result ≡ least_of self }
+    {
+        match self {
+            Protocol::Esp => ESP_BYTES,
+            Protocol::Ah => AH_BYTES,
+        }
+    }
+
+    // The SPI is upper bytes 0 to 3 for ESP, 4 to 7 for AH.
+    fn spi_at(self) -> usize
+        ensures { result ≡ spi_place self }
+    {
+        match self {
+            Protocol::Esp => 0,
+            Protocol::Ah => AH_SPI_AT,
+        }
+    }
 }
 
-// Whether this is AH or ESP for the gateway, whose own address is given.
-fn for_gateway(address: u64, packet: Packet) -> bool
-    ensures { result ≡ for_gateway address packet }
+// Which of the two a packet for the gateway has, whose own address is given; no other packet is its own.
+#[tactic(auto, using(std::proofs::lemmas::Bool::Decides::nat_tests), unfolding(selectors::specs::Value::number, verdicts::specs::Calls::for_gateway))]
+fn own_protocol(address: u64, packet: Packet) -> Option<Protocol>
+    ensures { result ≡ own_protocol address packet }
 {
-    let selectors = packet.selectors;
-    let local = selectors.local;
     let own = Value {
         upper: 0,
         lower: address,
     };
-    if !local.same(own) {
-        return false;
+    let selectors = packet.selectors;
+    if selectors.local != own || selectors.protocol.upper != 0 {
+        return None;
     }
-    if has_protocol(packet, ESP) {
-        return true;
+    match selectors.protocol.lower {
+        ESP => Some(Protocol::Esp),
+        AH => Some(Protocol::Ah),
+        _ => None,
     }
-    has_protocol(packet, AH)
 }
 
 fn is_fragment(packet: Packet) -> bool
     ensures { result ≡ fragment packet }
 {
-    if packet.offset != 0 {
-        return true;
-    }
-    packet.more_fragments
-}
-
-// The fewest bytes that an upper part of ESP or AH may have.
-fn least_upper(packet: Packet) -> usize
-    ensures { result ≡ least_upper packet }
-{
-    if has_protocol(packet, ESP) {
-        return ESP_BYTES;
-    }
-    AH_BYTES
-}
-
-// The length of the upper part.
-fn upper_length(packet: Packet) -> usize
-    ensures { result ≡ packet.end - packet.upper }
-{
-    if packet.end < packet.upper {
-        return 0;
-    }
-    packet.end - packet.upper
-}
-
-// The protocol of AH or ESP.
-fn protocol_of(packet: Packet) -> u64
-    ensures { result ≡ cond (esp packet) esp_protocol ah_protocol }
-{
-    if has_protocol(packet, ESP) {
-        return ESP;
-    }
-    AH
-}
-
-// The SPI is upper bytes 0 to 3 for ESP, 4 to 7 for AH.
-fn spi_of(bytes: &[u8], packet: Packet) -> u32
-    requires { packet.upper + esp_bytes ≤ packet.end }
-    ensures { result ≡ spi_of bytes.now packet }
-{
-    if has_protocol(packet, ESP) {
-        return packet::four_at(bytes, packet.upper) as u32;
-    }
-    packet::four_at(bytes, packet.upper + AH_SPI_AT) as u32
+    packet.offset != 0 || packet.more_fragments
 }
 
 // What becomes of AH or ESP for the gateway.
-fn to_ipsec(table: &[u64; TABLE_WORDS], bytes: &[u8], packet: Packet) -> Verdict
-    requires { number packet.selectors.protocol ≡ cond (esp packet) esp_protocol ah_protocol }
+#[tactic(auto, using(std::proofs::lemmas::Bool::Decides::nat_tests), unfolding(verdicts::specs::Calls::to_ipsec))]
+fn to_ipsec(table: &[u64; TABLE_WORDS], bytes: &[u8], packet: Packet, protocol: Protocol) -> Verdict
+    requires { number packet.selectors.protocol ≡ number_of protocol }
     ensures { result ≡ to_ipsec (pairs table.now) bytes.now packet }
 {
     if is_fragment(packet) {
         return Verdict::IpsecFragment;
     }
-    if upper_length(packet) < least_upper(packet) {
+    if packet.end.saturating_sub(packet.upper) < protocol.least_upper() {
         return Verdict::IpsecTooShort;
     }
-    let spi = spi_of(bytes, packet);
-    let protocol = protocol_of(packet);
-    if !sad::is_live(table, protocol, spi) {
+    let spi = packet::four_at(bytes, packet.upper + protocol.spi_at()) as u32;
+    if !sad::is_live(table, protocol.number(), spi) {
         return Verdict::NoSuchPair;
     }
-    Verdict::ToIpsec(protocol, spi as u64)
+    Verdict::ToIpsec(protocol.number(), u64::from(spi))
 }
 
 // The answer to AH or ESP for the gateway, whose own address is given.
-pub fn answer(address: u64, table: &[u64; TABLE_WORDS], bytes: &[u8], packet: Packet) -> Own
+#[tactic(auto, using(crate::specs::OwnLaws::own_number))]
+pub fn answer(
+    address: u64,
+    table: &[u64; TABLE_WORDS],
+    bytes: &[u8],
+    packet: Packet,
+) -> Option<Verdict>
     ensures { result ≡ own_answer address (pairs table.now) bytes.now packet }
 {
-    if !for_gateway(address, packet) {
-        return Own::NotOwn;
-    }
-    Own::Answer(to_ipsec(table, bytes, packet))
+    let protocol = own_protocol(address, packet)?;
+    Some(to_ipsec(table, bytes, packet, protocol))
 }

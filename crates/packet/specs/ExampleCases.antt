@@ -1,11 +1,10 @@
 -- The twelve cases that document 01 ('Measured against both sides') marks (P): one table under one claim. Assumes nothing.
-use Rattle.std.specs.Prelude.{ℕ, ◌≡◌, refl, true, false, List, [], ◌∷◌, ◌++◌, take}
+use Rattle.std.specs.Prelude.{Option, Some, None, ℕ, ◌≡◌, refl, true, false, List, [], ◌∷◌, ◌++◌, take}
 use Rattle.selectors.specs.Range.{range, contains, full, opaque, absent, port_size}
 use Rattle.selectors.specs.declared.Direction.TheVariants.{Out}
 use Rattle.packet.specs.Header.{two, four}
 use Rattle.packet.specs.Read.{header_good, readable, carries_ports, shown, value, read_packet}
-use Rattle.packet.specs.declared.Reading.{Reading}
-use Rattle.packet.specs.declared.Reading.TheVariants.{Readable, Unreadable}
+use Rattle.packet.specs.declared.Packet.{Packet}
 
 -- A header of 20 bytes from 10.0.0.1 to 10.0.0.2, by its total length, its fragment offset and its protocol.
 abbrev pub header : ℕ → ℕ → ℕ → List ℕ
@@ -17,9 +16,9 @@ abbrev pub some_ports : List ℕ
 some_ports = 18 ∷ 52 ∷ 0 ∷ 80 ∷ []
 
 -- What such a packet shows going out: its total length, offset, protocol, local port and remote port.
-abbrev pub shows : ℕ → ℕ → ℕ → ℕ → ℕ → Reading
+abbrev pub shows : ℕ → ℕ → ℕ → ℕ → ℕ → Option Packet
 shows total offset protocol local_port_of remote_port_of =
-    Readable (record {
+    Some (record {
       selectors =
           record {
             local = value 167772161;
@@ -54,11 +53,11 @@ pub record Cases : Type 0 where
   -- 'total length 24, offset 1: absent.'
   pub tcp-24-offset-1 : read_packet Out (header 24 1 6 ++ some_ports) ≡ shows 24 1 6 absent absent
   -- '19 bytes: 10.'
-  pub bytes-19 : read_packet Out (take 19 (header 20 0 6)) ≡ Unreadable
+  pub bytes-19 : read_packet Out (take 19 (header 20 0 6)) ≡ None
   -- '20 bytes, header field 5, total length 20: readable.'
   pub bytes-20 : read_packet Out (header 20 0 6) ≡ shows 20 0 6 absent absent
   -- 'total length 21 in 20 bytes: 10.'
-  pub bytes-20-total-21 : read_packet Out (header 21 0 6) ≡ Unreadable
+  pub bytes-20-total-21 : read_packet Out (header 21 0 6) ≡ None
 
 pub cases : Cases
 unfolding contains read_packet readable header_good shown carries_ports two four

@@ -1,14 +1,12 @@
 -- What the gateway sees in a packet (document 01; docs/RULES.md, 'What is read in a packet'). Assumes nothing: these are definitions.
-use Rattle.std.specs.Prelude.{ℕ, ◌+◌, ◌-◌, ◌/◌, min, Bool, cond, not, ◌&&◌, ◌||◌, List, leb, eqb, length, take, drop}
+use Rattle.std.specs.Prelude.{Option, Some, None, ℕ, ◌+◌, ◌-◌, ◌/◌, min, Bool, cond, not, ◌&&◌, ◌||◌, List, leb, eqb, length, take, drop}
 use Rattle.selectors.specs.Range.{absent}
 use Rattle.selectors.specs.declared.Value.{Value}
-use Rattle.selectors.specs.declared.Selectors.{Selectors}
+use Rattle.selectors.specs.declared.Fields.{Fields}
 use Rattle.selectors.specs.declared.Direction.{Direction}
 use Rattle.selectors.specs.declared.Direction.TheVariants.{Out, In}
 use Rattle.packet.specs.Header.{two, shortest_header, shortest_field, ip_version, version, header_field, header_end, total_length, more_fragments_of, fragment_offset, protocol, source, destination}
 use Rattle.packet.specs.declared.Packet.{Packet}
-use Rattle.packet.specs.declared.Reading.{Reading}
-use Rattle.packet.specs.declared.Reading.TheVariants.{Readable, Unreadable}
 
 -- 'At least 20 bytes, version 4, header length field at least 5, total length at least 4 times that field'.
 unfoldable pub header_good : List ℕ → Bool
@@ -77,7 +75,7 @@ remote_port_of d nothing = absent
 abbrev pub value : ℕ → Value
 value n = record { upper = 0; lower = n }
 
-abbrev pub selectors_in : Direction → List ℕ → Shown → Selectors
+abbrev pub selectors_in : Direction → List ℕ → Shown → Fields Value
 selectors_in d p s =
     record {
       local = value (local d (source p) (destination p));
@@ -99,12 +97,12 @@ packet_of d p end =
     }
 
 -- A packet: 'the upper part runs from header end to total length'.
-unfoldable pub read_packet : Direction → List ℕ → Reading
-read_packet d p = cond (readable p) (Readable (packet_of d p (total_length p))) Unreadable
+unfoldable pub read_packet : Direction → List ℕ → Option Packet
+read_packet d p = cond (readable p) (Some (packet_of d p (total_length p))) None
 
 -- A triggering header: 'the upper part ends at whichever comes first'.
-unfoldable pub read_trigger : Direction → List ℕ → Reading
-read_trigger d p = cond (trigger_readable p) (Readable (packet_of d p (min (total_length p) (length p)))) Unreadable
+unfoldable pub read_trigger : Direction → List ℕ → Option Packet
+read_trigger d p = cond (trigger_readable p) (Some (packet_of d p (min (total_length p) (length p)))) None
 
 -- 'The triggering header starts 8 bytes into the upper part'.
 abbrev pub trigger_at : ℕ

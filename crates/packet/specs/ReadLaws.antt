@@ -1,5 +1,5 @@
 -- Laws of reading a packet. Assumes nothing.
-use Rattle.std.specs.Prelude.{ℕ, ◌+◌, ◌≤◌, ◌<◌, min, ◌≡◌, ◌≢◌, ◌⊎◌, ◌↔◌, refl, Bool, false, cond, ◌&&◌, List, ◌++◌, eqb, length, take}
+use Rattle.std.specs.Prelude.{Option, Some, None, ℕ, ◌+◌, ◌≤◌, ◌<◌, min, ◌≡◌, ◌≢◌, ◌⊎◌, ◌↔◌, refl, Bool, false, cond, ◌&&◌, List, ◌++◌, eqb, length, take}
 use Rattle.std.proofs.Common.{arith, sym, ap, ◌∙◌, inl, inr, length-append, length-take-le, get_or-take}
 use Rattle.std.proofs.Math.Decide.{dec_lt, ℕ_discrete}
 use Rattle.std.proofs.Math.Bool.{true}
@@ -10,15 +10,14 @@ use Rattle.selectors.specs.Range.{absent, address_size, protocol_size, port_size
 use Rattle.selectors.proofs.RangeLaws.{both_true}
 use Rattle.selectors.specs.Value.{number}
 use Rattle.selectors.proofs.ValueLaws.{number-lower}
-use Rattle.selectors.specs.declared.Selectors.{Selectors}
+use Rattle.selectors.specs.declared.Value.{Value}
+use Rattle.selectors.specs.declared.Fields.{Fields}
 use Rattle.selectors.specs.declared.Direction.{Direction}
 use Rattle.selectors.specs.declared.Direction.TheVariants.{Out, In}
 use Rattle.packet.specs.Header.{Bytes, byte, two, four, total_length_at, flags_at, protocol_at, source_at, destination_at, shortest_header, header_end, total_length, fragment_offset, protocol, source, destination}
 use Rattle.packet.specs.Read.{Shown, ports, type_and_code, nothing, ports_bytes, destination_port_at, type_and_code_bytes, shown, header_good, readable, trigger_readable, carries_ports, is_icmp, local, remote, local_port_of, remote_port_of, value, packet_of, read_packet, read_trigger}
-use Rattle.packet.specs.StepsLaws.{Inside, good-header, good-field, good_upper, ports_not_icmp, shown_each, shown_later, shown-ports, shown_few-ports, shown_type, shown_few_type, shown_other}
+use Rattle.packet.specs.StepsLaws.{Inside, good_header, good-field, good_upper, ports_not_icmp, shown_each, shown_later, shown-ports, shown_few-ports, shown_type, shown_few_type, shown_other}
 use Rattle.packet.specs.declared.Packet.{Packet}
-use Rattle.packet.specs.declared.Reading.{Reading}
-use Rattle.packet.specs.declared.Reading.TheVariants.{Readable, Unreadable}
 
 -- What a packet that was read shows: all of the definition, with an upper part that lies in the bytes.
 pub record Shows (d : Direction) (p : List ℕ) (k : Packet) : Type 0 where
@@ -26,12 +25,12 @@ pub record Shows (d : Direction) (p : List ℕ) (k : Packet) : Type 0 where
   pub inside : Inside p end
   pub is : packet_of d p end ≡ k
 
-cond-readable : (b : Bool) (k' k : Packet) → cond b (Readable k') Unreadable ≡ Readable k → (b ≡ true) × (k' ≡ k)
+cond-readable : (b : Bool) (k' k : Packet) → cond b (Some k') None ≡ Some k → (b ≡ true) × (k' ≡ k)
 cond-readable true k' k e = (refl, (cc))
 cond-readable false k' k e = let z : ◌≡◌ {A = ℕ} 0 1 = cc in absurd (omega arith)
 
 -- A packet that was read ends at its total length.
-pub packet-shows : (d : Direction) (p : List ℕ) (k : Packet) → read_packet d p ≡ Readable k → Shows d p k
+pub packet-shows : (d : Direction) (p : List ℕ) (k : Packet) → read_packet d p ≡ Some k → Shows d p k
 unfolding read_packet readable
 packet-shows d p k e =
     let r = cond-readable _ _ k e in
@@ -40,7 +39,7 @@ packet-shows d p k e =
       end = total_length p;
       inside =
           record {
-            header = good-header p b.0;
+            header = good_header p b.0;
             upper = good_upper p b.0;
             within = leb-true _ _ b.1;
           };
@@ -48,7 +47,7 @@ packet-shows d p k e =
     }
 
 -- A triggering header that was read ends there too, or at the last byte.
-pub trigger-shows : (d : Direction) (p : List ℕ) (k : Packet) → read_trigger d p ≡ Readable k → Shows d p k
+pub trigger-shows : (d : Direction) (p : List ℕ) (k : Packet) → read_trigger d p ≡ Some k → Shows d p k
 unfolding read_trigger trigger_readable
 trigger-shows d p k e =
     let r = cond-readable _ _ k e in
@@ -57,7 +56,7 @@ trigger-shows d p k e =
     let u : header_end p ≤ total_length p = good_upper p b.0 in
     record {
       end = min (total_length p) (length p);
-      inside = record { header = good-header p b.0; upper = omega arith; within = omega arith };
+      inside = record { header = good_header p b.0; upper = omega arith; within = omega arith };
       is = r.1;
     }
 
@@ -89,9 +88,9 @@ turned k =
       end = k.end;
     }
 
-unfoldable pub turned_reading : Reading → Reading
-turned_reading (Readable k) = Readable (turned k)
-turned_reading Unreadable = Unreadable
+unfoldable pub turned_reading : Option Packet → Option Packet
+turned_reading (Some k) = Some (turned k)
+turned_reading None = None
 
 -- Ports are shown by other protocols than ICMP alone, and a type and code by ICMP alone.
 abbrev Kind : Bool → Shown → Type 0
@@ -136,9 +135,9 @@ packet_of-opposite d p end =
     )
 
 cond-turned : (b : Bool) (k' k : Packet) → k' ≡ turned k
-    → cond b (Readable k') Unreadable ≡ turned_reading (cond b (Readable k) Unreadable)
+    → cond b (Some k') None ≡ turned_reading (cond b (Some k) None)
 unfolding turned_reading
-cond-turned true k' k e = ap Readable e
+cond-turned true k' k e = ap Some e
 cond-turned false k' k e = refl
 
 pub read-opposite : (d : Direction) (p : List ℕ) → read_packet (opposite d) p ≡ turned_reading (read_packet d p)
@@ -207,7 +206,7 @@ read_alike d p q e l alike =
     let g' : header_good q ≡ true = sym (header_good_alike p q n alike h (leb-true _ _ g.1) l) ∙ g.0 in
     let l' : total_length q ≤ length q = omega arith in
     rw (e, g', le-leb (total_length q) (length q) l')
-    (ap Readable (packet_of_alike p q n alike d n h (omega arith) ∙ ap (packet_of d q) t))
+    (ap Some (packet_of_alike p q n alike d n h (omega arith) ∙ ap (packet_of d q) t))
 
 -- So what is appended to a readable packet is not seen, and the total length is all that is needed of one.
 pub read-append : (d : Direction) (p q : List ℕ) → readable p ≡ true → read_packet d (p ++ q) ≡ read_packet d p
@@ -250,7 +249,7 @@ shown_below p b end =
     shown_each p end Below (λ e. (two_at (header_end p), two_at (header_end p + destination_port_at))) (λ e. two_at (header_end p)) tt
 
 -- Each value that is read is one of its field: a port is below 65,536 or is absent.
-pub record InFields (s : Selectors) : Type 0 where
+pub record InFields (s : Fields Value) : Type 0 where
   pub local : number s.local < address_size
   pub remote : number s.remote < address_size
   pub protocol : number s.protocol < protocol_size
@@ -359,12 +358,12 @@ module _ (d : Direction) (p : List ℕ) (end : ℕ) where
             let z : remote d (two p (header_end p)) (two p (header_end p + destination_port_at)) ≡ absent = rw (shown-ports p end o h (omega arith)) at e in
             absurd (omega (arith, remote_below d _ _ absent (at (header_end p)) (at (header_end p + destination_port_at))))
 
-packet_is : (d : Direction) (p : List ℕ) (k : Packet) → read_packet d p ≡ Readable k → packet_of d p (total_length p) ≡ k
+packet_is : (d : Direction) (p : List ℕ) (k : Packet) → read_packet d p ≡ Some k → packet_of d p (total_length p) ≡ k
 unfolding read_packet
 packet_is d p k e = (cond-readable (readable p) _ k e).1
 
 -- 'Other protocols, a fragment offset other than 0, or too few upper bytes: both absent', and at no other time; ICMP's 'remote port is absent'.
-module _ (d : Direction) (p : List ℕ) (k : Packet) (b : Bytes p) (e : read_packet d p ≡ Readable k) where
+module _ (d : Direction) (p : List ℕ) (k : Packet) (b : Bytes p) (e : read_packet d p ≡ Some k) where
   pub local_port-absent : (number k.selectors.local_port ≡ absent)
       ↔ ((fragment_offset p ≢ 0)
       ⊎ ((carries_ports (protocol p) ≡ false) × (is_icmp (protocol p) ≡ false))

@@ -1,7 +1,7 @@
 // What the gateway sees in an IPv4 packet: five selectors, and what the packet calls need besides (document 01; docs/RULES.md, 'What is read in a packet').
 #![tactic(auto)]
 
-ghost use Rattle.std.specs.Prelude.{◌≡◌, ◌+◌, ◌-◌, ◌^◌, ◌≤◌, ◌<◌, min, length};
+ghost use Rattle.std.specs.Prelude.{◌≡◌, ◌+◌, ◌^◌, ◌≤◌, ◌<◌, length};
 ghost use Rattle.selectors.specs.Value.{number};
 ghost use Rattle.packet.specs.Header.{two, four, total_length_at, flags_at, header_end, total_length, fragment_offset};
 ghost use Rattle.packet.specs.Read.{header_good, carries_ports, shown, local, local_port_of, remote_port_of, value, packet_of, read_packet, read_trigger, trigger_of, error_type, icmp_error};
@@ -9,7 +9,7 @@ ghost use Rattle.packet.specs.StepsLaws.{Inside};
 
 use selectors::{ABSENT, Direction, Selectors, Value};
 
-#[derive(Clone, Copy)]
+#[derive(Clone, Copy, Debug, PartialEq, Eq)]
 pub struct Packet {
     pub selectors: Selectors,
     // The fragment offset, in units of eight bytes.
@@ -18,12 +18,6 @@ pub struct Packet {
     // Where the upper part begins and ends.
     pub upper: usize,
     pub end: usize,
-}
-
-#[derive(Clone, Copy)]
-pub enum Reading {
-    Readable(Packet),
-    Unreadable,
 }
 
 // The numbers of `Header.antt`, by the same names: where fields of the header stand, its sizes, its version.
@@ -41,7 +35,7 @@ const SHORTEST_HEADER: usize = 20;
 
 const LENGTH_UNIT: usize = 4;
 
-const IP_VERSION: u64 = 4;
+const IP_VERSION: u8 = 4;
 
 // The numbers of `Read.antt`, of the upper part.
 const PORTS_BYTES: usize = 4;
@@ -52,68 +46,54 @@ const TYPE_AND_CODE_BYTES: usize = 2;
 
 const TRIGGER_AT: usize = 8;
 
-const ICMP: u64 = 1;
-
-fn wide(byte: u8) -> u64
-    ensures { (result ≡ byte) × (result < 256) }
-{
-    byte as u64
-}
+const ICMP: u8 = 1;
 
 // Two bytes and four bytes as a number, the first byte the highest, where all are there.
+#[tactic(auto, unfolding(crate::specs::Header::two))]
 fn two_there(bytes: &[u8], i: usize) -> u64
     requires { i + 2 ≤ length bytes.now }
     ensures { (result ≡ two bytes.now i) × (result < 2 ^ 16) }
 {
-    let high = wide(bytes[i]);
-    let low = wide(bytes[i + 1]);
-    high * 256 + low
+    u64::from(u16::from_be_bytes([bytes[i], bytes[i + 1]]))
 }
 
+#[tactic(auto, unfolding(crate::specs::Header::four, crate::specs::Header::two))]
 fn four_there(bytes: &[u8], i: usize) -> u64
     requires { i + 4 ≤ length bytes.now }
     ensures { (result ≡ four bytes.now i) × (result < 2 ^ 32) }
 {
-    two_there(bytes, i) * 65536 + two_there(bytes, i + 2)
-}
-
-// How far `end` lies past a place: 0 where it does not.
-fn past(place: usize, end: usize) -> usize
-    ensures { result ≡ end - place }
-{
-    if place < end { end - place } else { 0 }
+    u64::from(u32::from_be_bytes([bytes[i], bytes[i + 1], bytes[i + 2], bytes[i + 3]]))
 }
 
 // The same numbers from any place on: a byte that is not there counts as 0.
+#[tactic(auto, using(crate::specs::StepsLaws::two_past, crate::specs::StepsLaws::two_last))]
 pub fn two_at(bytes: &[u8], i: usize) -> u64
     ensures { (result ≡ two bytes.now i) × (result < 2 ^ 16) }
 {
-    match past(i, bytes.len()) {
+    let left = bytes.len().saturating_sub(i);
+    match left {
         0 => 0,
-        1 => wide(bytes[i]) * 256,
+        1 => u64::from(bytes[i]) * 256,
         _ => two_there(bytes, i),
     }
 }
 
+#[tactic(auto, using(crate::specs::StepsLaws::two_past), unfolding(crate::specs::Header::four))]
 pub fn four_at(bytes: &[u8], i: usize) -> u64
     ensures { (result ≡ four bytes.now i) × (result < 2 ^ 32) }
 {
-    let left = past(i, bytes.len());
-    if 4 <= left {
-        return four_there(bytes, i);
+    match bytes.len().saturating_sub(i) {
+        0..=2 => two_at(bytes, i) * 65536,
+        3 => two_at(bytes, i) * 65536 + two_at(bytes, i + 2),
+        _ => four_there(bytes, i),
     }
-    let high = two_at(bytes, i) * 65536;
-    if left == 3 {
-        return high + two_at(bytes, i + 2);
-    }
-    high
 }
 
 fn header_end(bytes: &[u8]) -> usize
     requires { 1 ≤ length bytes.now }
     ensures { result ≡ header_end bytes.now }
 {
-    LENGTH_UNIT * (wide(bytes[0]) % 16) as usize
+    LENGTH_UNIT * usize::from(bytes[0] % 16)
 }
 
 fn total_length(bytes: &[u8]) -> usize
@@ -127,44 +107,34 @@ fn fragment_offset(bytes: &[u8]) -> u64
     requires { flags_at + 2 ≤ length bytes.now }
     ensures { result ≡ fragment_offset bytes.now }
 {
-    wide(bytes[FLAGS_AT]) % 32 * 256 + wide(bytes[FLAGS_AT + 1])
+    u64::from(bytes[FLAGS_AT] % 32) * 256 + u64::from(bytes[FLAGS_AT + 1])
 }
 
 // Whether this is a header that can be read, wherever the packet ends.
+#[tactic(auto, using(std::proofs::lemmas::Bool::Decides::nat_tests), unfolding(crate::specs::Read::header_good))]
 fn header_good(bytes: &[u8]) -> bool
     ensures { result ≡ header_good bytes.now }
 {
-    if bytes.len() < SHORTEST_HEADER {
-        return false;
-    }
-    if wide(bytes[0]) / 16 != IP_VERSION {
-        return false;
-    }
-    let upper = header_end(bytes);
-    if upper < SHORTEST_HEADER {
-        return false;
-    }
-    upper <= total_length(bytes)
+    SHORTEST_HEADER <= bytes.len()
+        && bytes[0] / 16 == IP_VERSION
+        && SHORTEST_HEADER <= header_end(bytes)
+        && header_end(bytes) <= total_length(bytes)
 }
 
 // The protocols that have ports.
-fn has_ports(protocol: u64) -> bool
+#[tactic(auto, using(std::proofs::lemmas::Bool::Decides::nat_tests), unfolding(crate::specs::Read::carries_ports))]
+fn has_ports(protocol: u8) -> bool
     ensures { result ≡ carries_ports protocol }
 {
-    match protocol {
-        6 | 17 | 132 => true,
-        _ => false,
-    }
+    matches!(protocol, 6 | 17 | 132)
 }
 
 // The types of the ICMP error messages.
+#[tactic(auto, using(std::proofs::lemmas::Bool::Decides::nat_tests), unfolding(crate::specs::Read::error_type))]
 fn error_type(icmp_type: u64) -> bool
     ensures { result ≡ error_type icmp_type }
 {
-    match icmp_type {
-        3 | 4 | 5 | 11 | 12 => true,
-        _ => false,
-    }
+    matches!(icmp_type, 3 | 4 | 5 | 11 | 12)
 }
 
 // Going out, local is the source; coming in, it is the destination.
@@ -185,43 +155,39 @@ struct Ports {
 }
 
 // The ports that an upper part up to `end` shows.
+#[tactic(auto, using(std::proofs::lemmas::Bool::Decides::nat_tests, crate::specs::StepsLaws::ports_not_icmp, crate::specs::StepsLaws::remote_local), unfolding(crate::specs::Read::shown))]
 fn ports_at(bytes: &[u8], direction: Direction, end: usize) -> Ports
     requires { Inside bytes.now end }
     ensures local_value { result.local ≡ value (local_port_of direction (shown bytes.now end)) }
     ensures remote_value { result.remote ≡ value (remote_port_of direction (shown bytes.now end)) }
 {
-    let none = Ports {
+    let absent = Ports {
         local: ABSENT,
         remote: ABSENT,
     };
     if fragment_offset(bytes) != 0 {
-        return none;
+        return absent;
     }
     let upper = header_end(bytes);
-    let protocol = wide(bytes[PROTOCOL_AT]);
-    if has_ports(protocol) {
-        if upper + PORTS_BYTES <= end {
-            let source = two_there(bytes, upper);
-            let destination = two_there(bytes, upper + DESTINATION_PORT_AT);
-            return Ports {
-                local: local(direction, source, destination),
-                remote: local(direction, destination, source),
-            };
-        }
-        return none;
+    let protocol = bytes[PROTOCOL_AT];
+    if has_ports(protocol) && upper + PORTS_BYTES <= end {
+        let source = two_there(bytes, upper);
+        let destination = two_there(bytes, upper + DESTINATION_PORT_AT);
+        return Ports {
+            local: local(direction, source, destination),
+            remote: local(direction, destination, source),
+        };
     }
-    if protocol == ICMP {
-        if upper + TYPE_AND_CODE_BYTES <= end {
-            return Ports {
-                local: Value {
-                    upper: 0,
-                    lower: two_there(bytes, upper),
-                },
-                remote: ABSENT,
-            };
-        }
+    if protocol == ICMP && upper + TYPE_AND_CODE_BYTES <= end {
+        return Ports {
+            local: Value {
+                upper: 0,
+                lower: two_there(bytes, upper),
+            },
+            remote: ABSENT,
+        };
     }
-    none
+    absent
 }
 
 // All that is read, with the upper part up to `end`.
@@ -230,8 +196,6 @@ fn packet_at(bytes: &[u8], direction: Direction, end: usize) -> Packet
     ensures { result ≡ packet_of direction bytes.now end }
 {
     let ports = ports_at(bytes, direction, end);
-    let local_port = ports.local;
-    let remote_port = ports.remote;
     let source = four_there(bytes, SOURCE_AT);
     let destination = four_there(bytes, DESTINATION_AT);
     Packet {
@@ -240,78 +204,68 @@ fn packet_at(bytes: &[u8], direction: Direction, end: usize) -> Packet
             remote: local(direction, destination, source),
             protocol: Value {
                 upper: 0,
-                lower: wide(bytes[PROTOCOL_AT]),
+                lower: u64::from(bytes[PROTOCOL_AT]),
             },
-            local_port,
-            remote_port,
+            local_port: ports.local,
+            remote_port: ports.remote,
         },
         offset: fragment_offset(bytes),
-        more_fragments: wide(bytes[FLAGS_AT]) / 32 % 2 == 1,
+        more_fragments: bytes[FLAGS_AT] / 32 % 2 == 1,
         upper: header_end(bytes),
         end,
     }
 }
 
 // Reads a packet that goes out or comes in.
-pub fn read(bytes: &[u8], direction: Direction) -> Reading
+#[tactic(auto, using(std::proofs::lemmas::Bool::Decides::nat_tests, crate::specs::StepsLaws::good_header, crate::specs::StepsLaws::good_upper), unfolding(crate::specs::Read::read_packet, crate::specs::Read::readable))]
+pub fn read(bytes: &[u8], direction: Direction) -> Option<Packet>
     ensures { result ≡ read_packet direction bytes.now }
 {
     if !header_good(bytes) {
-        return Reading::Unreadable;
+        return None;
     }
     let total = total_length(bytes);
     if bytes.len() < total {
-        return Reading::Unreadable;
+        return None;
     }
-    Reading::Readable(packet_at(bytes, direction, total))
-}
-
-fn least(a: usize, b: usize) -> usize
-    ensures { result ≡ min a b }
-{
-    if a <= b { a } else { b }
+    Some(packet_at(bytes, direction, total))
 }
 
 // Reads a triggering header, whose packet may be cut.
-pub fn read_trigger(bytes: &[u8], direction: Direction) -> Reading
+#[tactic(auto, using(std::proofs::lemmas::Bool::Decides::nat_tests, crate::specs::StepsLaws::good_header, crate::specs::StepsLaws::good_upper), unfolding(crate::specs::Read::read_trigger, crate::specs::Read::trigger_readable))]
+pub fn read_trigger(bytes: &[u8], direction: Direction) -> Option<Packet>
     ensures { result ≡ read_trigger direction bytes.now }
 {
     if !header_good(bytes) {
-        return Reading::Unreadable;
+        return None;
     }
     if bytes.len() < header_end(bytes) {
-        return Reading::Unreadable;
+        return None;
     }
     let total = total_length(bytes);
-    let end = least(total, bytes.len());
-    Reading::Readable(packet_at(bytes, direction, end))
+    let end = total.min(bytes.len());
+    Some(packet_at(bytes, direction, end))
 }
 
 // The part of an ICMP error message that has the triggering header.
+#[tactic(auto, unfolding(crate::specs::Read::trigger_of))]
 pub fn trigger(bytes: &[u8], packet: Packet) -> &[u8]
     ensures { result.now ≡ trigger_of bytes.now packet.upper packet.end }
 {
-    let stop = least(packet.end, bytes.len());
-    let length = past(TRIGGER_AT, past(packet.upper, stop));
-    let from = stop - length;
+    let stop = packet.end.min(bytes.len());
+    let from = packet.upper.saturating_add(TRIGGER_AT).min(stop);
     &bytes[from..stop]
 }
 
 // Whether these are the selectors of an ICMP error message. (An absent port shows no type: 65,536 / 256 is none.)
+#[tactic(auto, using(std::proofs::lemmas::Bool::Decides::nat_tests, crate::specs::StepsLaws::icmp_other, crate::specs::StepsLaws::icmp_by_type, crate::specs::StepsLaws::error_above), unfolding(selectors::specs::Value::number))]
 pub fn is_icmp_error(selectors: Selectors) -> bool
     ensures { result ≡ icmp_error (number selectors.protocol) (number selectors.local_port) }
 {
-    let protocol = selectors.protocol;
-    let port = selectors.local_port;
     let icmp = Value {
         upper: 0,
-        lower: ICMP,
+        lower: u64::from(ICMP),
     };
-    if !protocol.same(icmp) {
-        return false;
-    }
-    if port.upper != 0 {
-        return false;
-    }
-    error_type(port.lower / 256)
+    let port = selectors.local_port;
+    selectors.protocol == icmp && port.upper == 0 && error_type(port.lower / 256)
 }

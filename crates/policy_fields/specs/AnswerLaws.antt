@@ -1,31 +1,29 @@
 -- Laws of the answers. Assumes nothing.
-use Rattle.std.specs.Prelude.{ℕ, ◌≡◌, refl, Bool, true, false, cond}
+use Rattle.std.specs.Prelude.{ℕ, ◌≡◌, refl, Bool, true, false, cond, List}
+use Rattle.std.proofs.lemmas.Bool.{false≢true}
 use Rattle.std.proofs.Math.Option.{none, some}
-use Rattle.selectors.specs.Range.{range, in_field, address_size, protocol_size, port_size}
+use Rattle.selectors.specs.Range.{range, in_field}
+use Rattle.selectors.specs.declared.Value.{Value}
 use Rattle.selectors.proofs.ValueLaws.{number-lower}
-use Rattle.selectors.specs.Ranges.{new_address_range, new_protocol_range, new_port_range}
-use Rattle.policy_text.specs.Format.{made}
-use Rattle.policy_fields.specs.Answers.{small, address_for, protocol_for, port_for}
+use Rattle.selectors.specs.Ranges.{new_range}
+use Rattle.policy_text.specs.Bytes.{slash, index, has, are_same_bytes}
+use Rattle.policy_text.specs.Format.{any, made}
+use Rattle.policy_text.proofs.BytesLaws.{same_bytes}
+use Rattle.policy_fields.specs.Answers.{small, range_for}
 
--- The constructors of ranges make the ranges of the definition.
-module _ (a b : ℕ) where
-  pub new-address : new_address_range (small a) (small b) ≡ address_for (made address_size a b)
-  new-address = rw (number-lower (small a) refl, number-lower (small b) refl) (by (in_field address_size (range a b)))
-    where
-      by : (t : Bool) → cond t (address_for (some (range a b))) (address_for none) ≡ address_for (cond t (some (range a b)) none)
-      by true = refl
-      by false = refl
+-- The constructor of a range makes the range of the definition.
+pub new_small : {R : Type 0} (size : ℕ) (of_ends : Value → Value → R) (a b : ℕ) → new_range size of_ends (small a) (small b) ≡ range_for of_ends (made size a b)
+new_small size of_ends a b = rw (number-lower (small a) refl, number-lower (small b) refl) (by (in_field size (range a b)))
+  where
+    by : (t : Bool) → cond t (range_for of_ends (some (range a b))) (range_for of_ends none) ≡ range_for of_ends (cond t (some (range a b)) none)
+    by true = refl
+    by false = refl
 
-  pub new-protocol : new_protocol_range (small a) (small b) ≡ protocol_for (made protocol_size a b)
-  new-protocol = rw (number-lower (small a) refl, number-lower (small b) refl) (by (in_field protocol_size (range a b)))
-    where
-      by : (t : Bool) → cond t (protocol_for (some (range a b))) (protocol_for none) ≡ protocol_for (cond t (some (range a b)) none)
-      by true = refl
-      by false = refl
-
-  pub new_port : new_port_range (small a) (small b) ≡ port_for (made port_size a b)
-  new_port = rw (number-lower (small a) refl, number-lower (small b) refl) (by (in_field port_size (range a b)))
-    where
-      by : (t : Bool) → cond t (port_for (some (range a b))) (port_for none) ≡ port_for (cond t (some (range a b)) none)
-      by true = refl
-      by false = refl
+-- A text with a slash is not `any`.
+pub unlike_any : (s : List ℕ) → has slash s ≡ true → are_same_bytes s any ≡ false
+unfolding has index
+unlike_any s h = by (are_same_bytes s any) refl
+  where
+    by : (e : Bool) → are_same_bytes s any ≡ e → e ≡ false
+    by true e = absurd (false≢true (rw (same_bytes s any e) at h))
+    by false e = refl

@@ -1,24 +1,21 @@
 // The fields of a row, and the row.
 #![tactic(auto)]
 
-ghost use Rattle.std.specs.Prelude.{◌≡◌};
-ghost use Rattle.selectors.specs.Range.{address_size, protocol_size, port_size};
-ghost use Rattle.policy_text.specs.Format.{AtMost, spanned, direction_field};
-ghost use Rattle.policy_text.specs.Edition1.{address, is_mask, masked_range, address_field, protocol_field, port_end, port_field, action_field, protect};
-ghost use Rattle.policy_fields.specs.Answers.{small, address_for, protocol_for, port_for, direction_for, action_for, entry_for, entry_of};
+ghost use Rattle.std.specs.Prelude.{◌≡◌, ◌-◌, ◌^◌, ◌<◌, ◌≤◌, ℕ, List, cond, IfSome};
+ghost use Rattle.std.proofs.Common.{rules};
+ghost use Rattle.std.proofs.Math.Option.{some};
+ghost use Rattle.selectors.specs.Range.{full};
+ghost use Rattle.selectors.specs.Ranges.{address_of};
+ghost use Rattle.policy.specs.Words.{action_word};
+ghost use Rattle.policy_text.specs.Bytes.{are_same_bytes};
+ghost use Rattle.policy_text.specs.Decimals.{Number, decimal};
+ghost use Rattle.policy_text.specs.Format.{any, ends, direction_field};
+ghost use Rattle.policy_text.specs.Edition1.{address, is_mask, masked_range, address_field, port_end, action_field};
+ghost use Rattle.policy_fields.specs.Answers.{small, range_for, perhaps, entry_of};
 
-use policy::Row;
-use policy_text::{Number, after, before, decimal, find, same};
-use selectors::{
-    ABSENT, AddressRange, NewAddressRange, NewPortRange, NewProtocolRange, PortRange,
-    ProtocolRange, Value,
-};
-
-#[derive(Clone, Copy)]
-pub enum RowText {
-    Row(Row),
-    Bad,
-}
+use policy::{Action, Row, RowDirection};
+use policy_text::{after, before, decimal};
+use selectors::{ABSENT, AddressRange, Direction, FieldRange, PortRange, ProtocolRange, Value};
 
 fn small(n: u64) -> Value
     ensures { result ≡ small n }
@@ -26,37 +23,27 @@ fn small(n: u64) -> Value
     Value { upper: 0, lower: n }
 }
 
-fn address(s: &[u8]) -> Number
-    ensures { result ≡ address s.now }
+#[tactic(auto, unfolding(policy_text::specs::Edition1::address))]
+fn address(s: &[u8]) -> Option<u64>
+    ensures value { result ≡ address s.now }
+    ensures within { IfSome result (λ n. n ≤ 4294967295) }
 {
     let s1 = after(s, b'.');
     let s2 = after(s1, b'.');
     let s3 = after(s2, b'.');
-    let Number::Is(a) = decimal(before(s, b'.'), 255) else {
-        return Number::Bad;
-    };
-    let Number::Is(b) = decimal(before(s1, b'.'), 255) else {
-        return Number::Bad;
-    };
-    let Number::Is(c) = decimal(before(s2, b'.'), 255) else {
-        return Number::Bad;
-    };
-    let Number::Is(d) = decimal(s3, 255) else {
-        return Number::Bad;
-    };
-    Number::Is(((a * 256 + b) * 256 + c) * 256 + d)
+    let a = decimal(before(s, b'.'), 255)?;
+    let b = decimal(before(s1, b'.'), 255)?;
+    let c = decimal(before(s2, b'.'), 255)?;
+    let d = decimal(s3, 255)?;
+    Some(((a * 256 + b) * 256 + c) * 256 + d)
 }
 
 // Whether a number of 32 bits is ones followed by zeros.
 fn is_mask(m: u64) -> bool
     ensures { result ≡ is_mask m }
 {
-    let mut zeros: u64 = 33;
-    let mut power: u64 = 8589934592;
-    while 0 < zeros {
-        zeros -= 1;
-        power = power / 2;
-        if m == 4294967296 - power {
+    for zeros in 0..33u32 {
+        if m == 4294967296 - (1 << zeros) {
             return true;
         }
     }
@@ -64,202 +51,177 @@ fn is_mask(m: u64) -> bool
 }
 
 // The addresses of address/mask.
-fn masked(address: Number, mask: Number) -> NewAddressRange
-    requires { AtMost 4294967295 address × AtMost 4294967295 mask }
-    ensures { result ≡ address_for (masked_range address mask) }
+#[tactic(auto, using(crate::specs::AnswerLaws::new_small))]
+fn masked(address: u64, mask: u64) -> Option<AddressRange>
+    requires address_in { address ≤ 4294967295 }
+    requires mask_in { mask ≤ 4294967295 }
+    ensures { result ≡ range_for address_of (masked_range (Some address) (Some mask)) }
 {
-    let Number::Is(a) = address else {
-        return NewAddressRange::Refused;
-    };
-    let Number::Is(m) = mask else {
-        return NewAddressRange::Refused;
-    };
-    if !is_mask(m) {
-        return NewAddressRange::Refused;
+    if !is_mask(mask) {
+        return None;
     }
-    let size = 4294967296 - m;
-    if a % size != 0 {
-        return NewAddressRange::Refused;
+    let size = 4294967296 - mask;
+    if address % size != 0 {
+        return None;
     }
-    AddressRange::new(small(a), small(a + (size - 1)))
+    AddressRange::new(small(address), small(address + (size - 1)))
 }
 
-// The range from one value to another, of each field.
-fn address_span(low: Number, high: Number) -> NewAddressRange
-    ensures { result ≡ address_for (spanned address_size low high) }
-{
-    let Number::Is(a) = low else {
-        return NewAddressRange::Refused;
-    };
-    let Number::Is(b) = high else {
-        return NewAddressRange::Refused;
-    };
-    AddressRange::new(small(a), small(b))
+// A range that stands in a row as text.
+trait RangeText: FieldRange {
+    // The value that a text stands for before a dash, and after one or alone.
+    ghost low_of: { List ℕ → Number };
+
+    ghost high_of: { List ℕ → Number };
+
+    fn low(s: &[u8]) -> Option<u64>
+        ensures { result ≡ low_of s.now };
+
+    fn high(s: &[u8]) -> Option<u64>
+        ensures { result ≡ high_of s.now };
+
+    ghost any_is: { Self.ANY ≡ Self.of_ends (small 0) (small (Self.size - 1)) };
+
+    // One value, or `low-high`.
+    #[tactic(auto, using(policy_text::proofs::BytesLaws::has_any, crate::specs::AnswerLaws::new_small))]
+    final fn span(s: &[u8]) -> Option<Self>
+        ensures { result ≡ range_for Self.of_ends (ends Self.size low_of high_of s.now) }
+    {
+        if s.contains(&b'-') {
+            let low = Self::low(before(s, b'-'))?;
+            let high = Self::high(after(s, b'-'))?;
+            return Self::new(small(low), small(high));
+        }
+        let value = small(Self::high(s)?);
+        Self::new(value, value)
+    }
+
+    // `any`, or a span.
+    #[tactic(auto, using(policy_text::proofs::BytesLaws::same_pointwise))]
+    final fn read(s: &[u8]) -> Option<Self>
+        ensures { result ≡ range_for Self.of_ends (cond (are_same_bytes s.now any) (some (full Self.size)) (ends Self.size low_of high_of s.now)) }
+    {
+        if s == b"any".as_slice() {
+            return Some(Self::ANY);
+        }
+        Self::span(s)
+    }
 }
 
-fn protocol_span(low: Number, high: Number) -> NewProtocolRange
-    ensures { result ≡ protocol_for (spanned protocol_size low high) }
-{
-    let Number::Is(a) = low else {
-        return NewProtocolRange::Refused;
-    };
-    let Number::Is(b) = high else {
-        return NewProtocolRange::Refused;
-    };
-    ProtocolRange::new(small(a), small(b))
+impl RangeText for AddressRange {
+    ghost low_of = { address };
+
+    ghost high_of = { address };
+
+    ghost any_is = { Prim.search rules };
+
+    fn low(s: &[u8]) -> Option<u64> {
+        address(s)
+    }
+
+    fn high(s: &[u8]) -> Option<u64> {
+        address(s)
+    }
 }
 
-fn port_span(low: Number, high: Number) -> NewPortRange
-    ensures { result ≡ port_for (spanned port_size low high) }
-{
-    let Number::Is(a) = low else {
-        return NewPortRange::Refused;
-    };
-    let Number::Is(b) = high else {
-        return NewPortRange::Refused;
-    };
-    PortRange::new(small(a), small(b))
+impl RangeText for ProtocolRange {
+    ghost low_of = { decimal 255 };
+
+    ghost high_of = { decimal 255 };
+
+    ghost any_is = { Prim.search rules };
+
+    fn low(s: &[u8]) -> Option<u64> {
+        decimal(s, 255)
+    }
+
+    fn high(s: &[u8]) -> Option<u64> {
+        decimal(s, 255)
+    }
 }
 
-fn address_field(s: &[u8]) -> NewAddressRange
-    ensures { result ≡ address_for (address_field s.now) }
-{
-    if same(s, b"any") {
-        return NewAddressRange::Made(AddressRange::ANY);
+impl RangeText for PortRange {
+    ghost low_of = { decimal 65535 };
+
+    ghost high_of = { port_end };
+
+    ghost any_is = { Prim.search rules };
+
+    fn low(s: &[u8]) -> Option<u64> {
+        decimal(s, 65535)
     }
-    if find(s, b'/') < s.len() {
-        return masked(address(before(s, b'/')), address(after(s, b'/')));
+
+    // One port, or `opaque`.
+    #[tactic(auto, using(policy_text::proofs::BytesLaws::same_pointwise))]
+    fn high(s: &[u8]) -> Option<u64> {
+        if s == b"opaque".as_slice() {
+            return Some(ABSENT.lower);
+        }
+        decimal(s, 65535)
     }
-    if find(s, b'-') < s.len() {
-        return address_span(address(before(s, b'-')), address(after(s, b'-')));
-    }
-    address_span(address(s), address(s))
 }
 
-fn protocol_field(s: &[u8]) -> NewProtocolRange
-    ensures { result ≡ protocol_for (protocol_field s.now) }
+// An address range may also be address/mask.
+#[tactic(auto, using(policy_text::proofs::BytesLaws::has_any), unfolding(policy_text::specs::Edition1::address_field))]
+fn address_field(s: &[u8]) -> Option<AddressRange>
+    ensures { result ≡ range_for address_of (address_field s.now) }
 {
-    if same(s, b"any") {
-        return NewProtocolRange::Made(ProtocolRange::ANY);
+    if s.contains(&b'/') {
+        return masked(address(before(s, b'/'))?, address(after(s, b'/'))?);
     }
-    if find(s, b'-') < s.len() {
-        return protocol_span(decimal(before(s, b'-'), 255), decimal(after(s, b'-'), 255));
-    }
-    protocol_span(decimal(s, 255), decimal(s, 255))
+    AddressRange::read(s)
 }
 
-// One port, or `opaque`.
-fn port_end(s: &[u8]) -> Number
-    ensures { result ≡ port_end s.now }
+#[tactic(auto, using(policy_text::proofs::BytesLaws::same_pointwise), unfolding(policy_text::specs::Format::direction_field))]
+fn direction_field(s: &[u8]) -> Option<RowDirection>
+    ensures { result ≡ perhaps (direction_field s.now) }
 {
-    if same(s, b"opaque") {
-        let absent = ABSENT;
-        return Number::Is(absent.lower);
+    if s == b"out".as_slice() {
+        return Some(RowDirection::Only(Direction::Out));
     }
-    decimal(s, 65535)
+    if s == b"in".as_slice() {
+        return Some(RowDirection::Only(Direction::In));
+    }
+    if s == b"both".as_slice() {
+        return Some(RowDirection::Both);
+    }
+    None
 }
 
-fn port_field(s: &[u8]) -> NewPortRange
-    ensures { result ≡ port_for (port_field s.now) }
+#[tactic(auto, using(policy_text::proofs::BytesLaws::same_pointwise), unfolding(policy_text::specs::Edition1::action_field))]
+fn action_field(s: &[u8]) -> Option<Action>
+    ensures value { result ≡ perhaps (action_field s.now) }
+    ensures within { IfSome result (λ action. action_word action < 2 ^ 64) }
 {
-    if same(s, b"any") {
-        return NewPortRange::Made(PortRange::ANY);
+    if s == b"bypass".as_slice() {
+        return Some(Action::Bypass);
     }
-    if find(s, b'-') < s.len() {
-        return port_span(decimal(before(s, b'-'), 65535), port_end(after(s, b'-')));
+    if s == b"discard".as_slice() {
+        return Some(Action::Discard);
     }
-    port_span(port_end(s), port_end(s))
+    if before(s, b'-') == b"protect".as_slice() {
+        let number = decimal(after(s, b'-'), 255)?;
+        if number != 0 {
+            return Some(Action::Protect(number));
+        }
+    }
+    None
 }
 
-fn direction_field(s: &[u8]) -> Number
-    ensures { result ≡ direction_for (direction_field s.now) }
+fn action_word(action: Action) -> u64
+    requires { action_word action < 2 ^ 64 }
+    ensures { result ≡ action_word action }
 {
-    if same(s, b"out") {
-        return Number::Is(1);
+    match action {
+        Action::Discard => 0,
+        Action::Bypass => 1,
+        Action::Protect(number) => number + 2,
     }
-    if same(s, b"in") {
-        return Number::Is(2);
-    }
-    if same(s, b"both") {
-        return Number::Is(3);
-    }
-    Number::Bad
-}
-
-fn protect(number: Number) -> Number
-    requires { AtMost 255 number }
-    ensures { result ≡ action_for (protect number) }
-{
-    let Number::Is(n) = number else {
-        return Number::Bad;
-    };
-    if n == 0 {
-        return Number::Bad;
-    }
-    Number::Is(n + 2)
-}
-
-fn action_field(s: &[u8]) -> Number
-    ensures { result ≡ action_for (action_field s.now) }
-{
-    if same(s, b"bypass") {
-        return Number::Is(1);
-    }
-    if same(s, b"discard") {
-        return Number::Is(0);
-    }
-    if same(before(s, b'-'), b"protect") {
-        return protect(decimal(after(s, b'-'), 255));
-    }
-    Number::Bad
-}
-
-// The row of seven fields, if each is one.
-fn entry_of(
-    direction: Number,
-    action: Number,
-    local: NewAddressRange,
-    remote: NewAddressRange,
-    protocol: NewProtocolRange,
-    local_port: NewPortRange,
-    remote_port: NewPortRange,
-) -> RowText
-    ensures { result ≡ entry_for direction action local remote protocol local_port remote_port }
-{
-    let Number::Is(direction) = direction else {
-        return RowText::Bad;
-    };
-    let Number::Is(action) = action else {
-        return RowText::Bad;
-    };
-    let NewAddressRange::Made(local) = local else {
-        return RowText::Bad;
-    };
-    let NewAddressRange::Made(remote) = remote else {
-        return RowText::Bad;
-    };
-    let NewProtocolRange::Made(protocol) = protocol else {
-        return RowText::Bad;
-    };
-    let NewPortRange::Made(local_port) = local_port else {
-        return RowText::Bad;
-    };
-    let NewPortRange::Made(remote_port) = remote_port else {
-        return RowText::Bad;
-    };
-    RowText::Row(Row {
-        direction,
-        action,
-        local,
-        remote,
-        protocol,
-        local_port,
-        remote_port,
-    })
 }
 
 // A row's text without its LF.
-pub fn row(s: &[u8]) -> RowText
+#[tactic(auto, unfolding(crate::specs::Answers::entry_of, policy_text::specs::Format::field, policy_text::specs::Format::fields_from, policy_text::specs::Edition1::protocol_field, policy_text::specs::Edition1::port_field))]
+pub fn row(s: &[u8]) -> Option<Row>
     ensures { result ≡ entry_of s.now }
 {
     let s1 = after(s, b'\t');
@@ -268,20 +230,20 @@ pub fn row(s: &[u8]) -> RowText
     let s4 = after(s3, b'\t');
     let s5 = after(s4, b'\t');
     let s6 = after(s5, b'\t');
-    let direction = direction_field(before(s, b'\t'));
-    let action = action_field(before(s1, b'\t'));
-    let local = address_field(before(s2, b'\t'));
-    let remote = address_field(before(s3, b'\t'));
-    let protocol = protocol_field(before(s4, b'\t'));
-    let local_port = port_field(before(s5, b'\t'));
-    let remote_port = port_field(s6);
-    entry_of(
-        direction,
-        action,
+    let direction = direction_field(before(s, b'\t'))?;
+    let action = action_field(before(s1, b'\t'))?;
+    let local = address_field(before(s2, b'\t'))?;
+    let remote = address_field(before(s3, b'\t'))?;
+    let protocol = ProtocolRange::read(before(s4, b'\t'))?;
+    let local_port = PortRange::read(before(s5, b'\t'))?;
+    let remote_port = PortRange::read(s6)?;
+    Some(Row {
+        direction: u64::from(direction),
+        action: action_word(action),
         local,
         remote,
         protocol,
         local_port,
         remote_port,
-    )
+    })
 }

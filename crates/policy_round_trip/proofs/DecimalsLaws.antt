@@ -1,9 +1,8 @@
 -- Decimals and addresses, printed and read. Assumes nothing.
-use Rattle.std.specs.Prelude.{ℕ, zero, suc, ◌+◌, ◌*◌, ◌/◌, ◌%◌, ◌^◌, ◌≤◌, ◌<◌, ◌≡◌, refl, Bool, true, false, cond, ◌&&◌, List, [], ◌∷◌, ◌++◌, leb, eqb, length}
+use Rattle.std.specs.Prelude.{ℕ, zero, suc, ◌+◌, ◌*◌, ◌/◌, ◌%◌, ◌^◌, ◌≤◌, ◌<◌, ◌≡◌, refl, Bool, true, false, cond, ◌&&◌, List, [], ◌∷◌, ◌++◌, leb, eqb, length, Some}
 use Rattle.std.proofs.Common.{arith, pow-suc, ap, ◌∙◌, true≢false, append_assoc, append-nil, le-leb, lt-ltb, le-ltb, ne_eqb, eqb-true}
 use Rattle.std.proofs.Math.Decide.{dec_lt}
 use Rattle.selectors.proofs.RangeLaws.{both_true}
-use Rattle.policy_text.specs.declared.Number.TheVariants.{Is}
 use Rattle.policy_text.specs.Bytes.{dot, count, are_same_bytes}
 use Rattle.policy_text.specs.Decimals.{digits, value, unpadded, decimal, last_digits, decimal_text}
 use Rattle.policy_text.specs.Edition1.{address, lower, dotted, address_text}
@@ -68,11 +67,11 @@ decimal-unpadded zero h = refl
 decimal-unpadded (suc n) h = rw append-nil at ((digits_of 20 (suc n) []).no_padding (omega arith) (omega arith))
 
 -- The text of a number up to max is read as that number.
-pub decimal_back : (max n : ℕ) → n ≤ max → max < 2 ^ 64 → decimal max (decimal_text n) ≡ Is n
+pub decimal_back : (max n : ℕ) → n ≤ max → max < 2 ^ 64 → decimal max (decimal_text n) ≡ Some n
 unfolding decimal_text value
 decimal_back max n h l =
     let e : value 0 (decimal_text n) ≡ n = rw append-nil at ((digits_of 20 n []).its-value (omega arith)) in
-    decimal_is max (decimal_text n) (decimal-unpadded n (omega arith)) (decimal-digits n) (omega arith) ∙ ap Is e
+    decimal_is max (decimal_text n) (decimal-unpadded n (omega arith)) (decimal-digits n) (omega arith) ∙ ap Some e
 
 digits-without : (b : ℕ) (s : List ℕ) → is_digit b ≡ false → digits s ≡ true → count b s ≡ 0
 unfolding digits count
@@ -94,11 +93,11 @@ decimal_no_word b n t h l = differ b (decimal_text n) t (decimal-without b n h) 
 
 octets_back : (a b c d : ℕ) → a ≤ 255 → b ≤ 255 → c ≤ 255 → d ≤ 255
     → address (decimal_text a ++ (dot ∷ (decimal_text b ++ (dot ∷ (decimal_text c ++ (dot ∷ decimal_text d))))))
-    ≡ Is (((a * 256 + b) * 256 + c) * 256 + d)
+    ≡ Some (((a * 256 + b) * 256 + c) * 256 + d)
 unfolding address
 octets_back a b c d p q r s =
     let w : (n : ℕ) → count dot (decimal_text n) ≡ 0 = λ n. decimal-without dot n refl in
-    let o : (n : ℕ) → n ≤ 255 → decimal 255 (decimal_text n) ≡ Is n = λ n h. decimal_back 255 n h (omega arith) in
+    let o : (n : ℕ) → n ≤ 255 → decimal 255 (decimal_text n) ≡ Some n = λ n h. decimal_back 255 n h (omega arith) in
     rw (
       after_seam dot (decimal_text a) _ (w a),
       after_seam dot (decimal_text b) _ (w b),
@@ -113,13 +112,13 @@ octets_back a b c d p q r s =
     )
 
 -- The text of an address is read as that address.
-pub address_back : (n : ℕ) → n < 2 ^ 32 → address (address_text n) ≡ Is n
+pub address_back : (n : ℕ) → n < 2 ^ 32 → address (address_text n) ≡ Some n
 unfolding address_text dotted
 address_back n h =
     let e : lower n ≡ n = omega arith in
     rw e
     (octets_back (n / 16777216) (n / 65536 % 256) (n / 256 % 256) (n % 256) (omega arith) (omega arith) (omega arith) (omega arith)
-    ∙ ap Is (omega arith))
+    ∙ ap Some (omega arith))
 
 -- The bytes of an address are digits and dots.
 pub address-without : (b n : ℕ) → is_digit b ≡ false → eqb dot b ≡ false → count b (address_text n) ≡ 0

@@ -1,5 +1,5 @@
 -- Edition 1 obeys the laws of an edition. Assumes nothing.
-use Rattle.std.specs.Prelude.{ℕ, ◌+◌, ◌-◌, ◌≤◌, ◌<◌, ◌%◌, ◌^◌, ◌≡◌, refl, Bool, true, false, cond, List, eqb, length, take}
+use Rattle.std.specs.Prelude.{ℕ, ◌+◌, ◌-◌, ◌≤◌, ◌<◌, ◌%◌, ◌^◌, ◌≡◌, refl, Bool, true, false, cond, List, eqb, length, take, Some, None}
 use Rattle.std.proofs.Common.{arith, ne_eqb}
 use Rattle.std.proofs.Math.Decide.{ℕ_discrete}
 use Rattle.std.proofs.Math.Option.{none, some}
@@ -7,10 +7,8 @@ use Rattle.std.proofs.lemmas.Bool.{eqb-false}
 use Rattle.selectors.specs.Range.{Range, full, in_field, absent, address_size, protocol_size, port_size}
 use Rattle.policy.specs.declared.Action.{Action}
 use Rattle.policy.specs.declared.Action.TheVariants.{Discard, Bypass, Protect}
-use Rattle.policy_text.specs.declared.Number.{Number}
-use Rattle.policy_text.specs.declared.Number.TheVariants.{Is, Bad}
 use Rattle.policy_text.specs.Bytes.{tab, lf, dash, slash, index, has, before, after, count, are_same_bytes}
-use Rattle.policy_text.specs.Decimals.{decimal, decimal_text}
+use Rattle.policy_text.specs.Decimals.{Number, decimal, decimal_text}
 use Rattle.policy_text.specs.Format.{AtMost, any}
 use Rattle.policy_text.specs.Print.{range_text}
 use Rattle.policy_text.specs.Edition1.{header, opaque_word, bypass_word, discard_word, protect_word, address, is_mask, masked_range, address_field, protocol_field, port_end, port_field, protect, action_field, lower, address_text, protocol_text, port_text, action_text, addresses, protocols, ports, edition1}
@@ -40,7 +38,7 @@ protocol_values = record {
   short = λ n h. let e : lower n ≡ n = omega arith in rw e (decimal-length 2 n (omega arith));
 }
   where
-    back : (n : ℕ) → n < 256 → decimal 255 (protocol_text n) ≡ Is n
+    back : (n : ℕ) → n < 256 → decimal 255 (protocol_text n) ≡ Some n
     back n h = let e : lower n ≡ n = omega arith in rw e (decimal_back 255 n (omega arith) (omega arith))
 
 -- A port: a number, or `opaque`.
@@ -59,7 +57,7 @@ port_values = record {
   short = λ n. short_of n (ℕ_discrete n absent);
 }
   where
-    high : (n : ℕ) → Dec (n ≡ absent) → n < port_size → port_end (port_text n) ≡ Is n
+    high : (n : ℕ) → Dec (n ≡ absent) → n < port_size → port_end (port_text n) ≡ Some n
     high n (yes e) h = rw e
     high n (no g) h =
         rw (port-number n (omega arith), decimal_no_word 111 n opaque_word refl (omega arith)) (decimal_back 65535 n (omega arith) (omega arith))
@@ -91,9 +89,9 @@ port_range_back r h = range_back port_values r port_field refl (rw (span_not_any
 
 -- What is read of a field's text is a range of the field.
 masked_in : (a m : Number) → Reads (In address_size) (masked_range a m)
-masked_in Bad m = tt
-masked_in (Is a) Bad = tt
-masked_in (Is a) (Is m) = either (In address_size) (is_mask m) _ none (either (In address_size) (eqb (a % (2 ^ 32 - m)) 0) _ none (made_in address_size a (a + (2 ^ 32 - m - 1))) tt) tt
+masked_in None m = tt
+masked_in (Some a) None = tt
+masked_in (Some a) (Some m) = either (In address_size) (is_mask m) _ none (either (In address_size) (eqb (a % (2 ^ 32 - m)) 0) _ none (made_in address_size a (a + (2 ^ 32 - m - 1))) tt) tt
 
 address_in : (s : List ℕ) → Reads (In address_size) (address_field s)
 unfolding address_field
@@ -122,8 +120,8 @@ port_spelled : Spelled ports
 port_spelled = record { range_back = port_range_back; range_read = λ s r e. of_field port_size r (port_in s) e; range_clean = range_clean port_values }
 
 protect_in : (n : Number) → AtMost 255 n → Reads Proper (protect n)
-protect_in Bad h = tt
-protect_in (Is n) h = by (eqb n 0) refl
+protect_in None h = tt
+protect_in (Some n) h = by (eqb n 0) refl
   where
     by : (e : Bool) → eqb n 0 ≡ e → Reads Proper (cond e none (some (Protect n)))
     by true e = tt

@@ -1,5 +1,5 @@
 -- Ranges of any field, printed and read. Assumes nothing.
-use Rattle.std.specs.Prelude.{ℕ, suc, ◌+◌, ◌≤◌, ◌<◌, ◌≡◌, Bool, cond, List, ◌∷◌, ◌++◌, leb, ltb, length}
+use Rattle.std.specs.Prelude.{ℕ, suc, ◌+◌, ◌≤◌, ◌<◌, ◌≡◌, Bool, cond, List, ◌∷◌, ◌++◌, leb, ltb, length, Some, None}
 use Rattle.std.proofs.Common.{arith, sym, ◌∙◌}
 use Rattle.std.proofs.Math.Path.{refl, ap}
 use Rattle.std.proofs.Math.Bool.{true, false}
@@ -8,8 +8,7 @@ use Rattle.std.proofs.Math.Dec.{eqb}
 use borrow.Author.Tests.{leb-true, ltb-true, le-leb, lt-ltb, eqb-true, eqb-false}
 use Rattle.selectors.specs.Range.{Range, range, full, in_field, same_range}
 use Rattle.selectors.proofs.RangeLaws.{both_true, same_range_true}
-use Rattle.policy_text.specs.declared.Number.{Number}
-use Rattle.policy_text.specs.declared.Number.TheVariants.{Is, Bad}
+use Rattle.policy_text.specs.Decimals.{Number}
 use Rattle.policy_text.specs.Bytes.{tab, lf, dot, dash, has, before, after, count, are_same_bytes}
 use Rattle.policy_text.specs.Format.{any, made, spanned, ends}
 use Rattle.policy_text.specs.Print.{range_text}
@@ -36,8 +35,8 @@ Outside b = (is_digit b ≡ false) × (eqb dot b ≡ false) × (count b opaque_w
 
 -- Values of a field, whose texts are read as the values, those before the last also as a low end.
 pub record Values (size width : ℕ) (text : ℕ → List ℕ) (low high : List ℕ → Number) : Type 0 where
-  pub low_back : (n : ℕ) → suc n < size → low (text n) ≡ Is n
-  pub high_back : (n : ℕ) → n < size → high (text n) ≡ Is n
+  pub low_back : (n : ℕ) → suc n < size → low (text n) ≡ Some n
+  pub high_back : (n : ℕ) → n < size → high (text n) ≡ Some n
   pub without : (b : ℕ) → Outside b → (n : ℕ) → count b (text n) ≡ 0
   pub short : (n : ℕ) → n < size → length (text n) ≤ width
 
@@ -132,9 +131,9 @@ made_in size low high = by (in_field size (range low high)) refl
     by false e = tt
 
 spanned_in : (size : ℕ) (a b : Number) → Reads (In size) (spanned size a b)
-spanned_in size Bad b = tt
-spanned_in size (Is m) Bad = tt
-spanned_in size (Is m) (Is n) = made_in size m n
+spanned_in size None b = tt
+spanned_in size (Some m) None = tt
+spanned_in size (Some m) (Some n) = made_in size m n
 
 pub ends-in : (size : ℕ) (low high : List ℕ → Number) (s : List ℕ) → Reads (In size) (ends size low high s)
 ends-in size low high s = either (In size) (has dash s) _ _ (spanned_in size (low (before dash s)) (high (after dash s))) (spanned_in size (high s) (high s))

@@ -1,12 +1,11 @@
 -- Worked examples of the format, computed. Assumes nothing.
-use Rattle.std.specs.Prelude.{◌≡◌, refl, [], ◌∷◌, ◌++◌}
+use Rattle.std.specs.Prelude.{◌≡◌, refl, [], ◌∷◌, ◌++◌, Some, None}
 use Rattle.std.proofs.Math.Option.{none, some}
 use Rattle.selectors.specs.Range.{range, full, in_field, same_range, address_size, protocol_size, port_size}
 use Rattle.policy.specs.declared.Action.TheVariants.{Bypass}
 use Rattle.policy.specs.declared.RowDirection.TheVariants.{Both}
 use Rattle.policy.specs.Policy.{PolicyRow}
 use Rattle.policy_text.specs.declared.Edition.TheVariants.{One}
-use Rattle.policy_text.specs.declared.Number.TheVariants.{Is, Bad}
 use Rattle.policy_text.specs.declared.Refusal.TheVariants.{NotHeader, NotEnded, TooMany, BadRow}
 use Rattle.policy_text.specs.Bytes.{lf, index, has, before, after, count, are_same_bytes}
 use Rattle.policy_text.specs.Decimals.{digits, value, unpadded, decimal, last_digits, decimal_text}
@@ -16,32 +15,32 @@ use Rattle.policy_text.specs.Edition1.{header, mask_below, masked_range, protoco
 use Rattle.policy_text.specs.Editions.{edition_among, rows, refused, parse_policy, rules}
 
 -- Decimals: `0`, `07`, `256` up to 255, and 2^64 up to 65,535.
-zero_read : decimal 255 (48 ∷ []) ≡ Is 0
+zero_read : decimal 255 (48 ∷ []) ≡ Some 0
 unfolding decimal unpadded digits value
 zero_read = refl
 
-padded_refused : decimal 255 (48 ∷ 55 ∷ []) ≡ Bad
+padded_refused : decimal 255 (48 ∷ 55 ∷ []) ≡ None
 unfolding decimal unpadded digits value
 padded_refused = refl
 
-large_refused : decimal 255 (50 ∷ 53 ∷ 54 ∷ []) ≡ Bad
+large_refused : decimal 255 (50 ∷ 53 ∷ 54 ∷ []) ≡ None
 unfolding decimal unpadded digits value
 large_refused = refl
 
-long_refused : decimal 65535 (49 ∷ 56 ∷ 52 ∷ 52 ∷ 54 ∷ 55 ∷ 52 ∷ 52 ∷ 48 ∷ 55 ∷ 51 ∷ 55 ∷ 48 ∷ 57 ∷ 53 ∷ 53 ∷ 49 ∷ 54 ∷ 49 ∷ 54 ∷ []) ≡ Bad
+long_refused : decimal 65535 (49 ∷ 56 ∷ 52 ∷ 52 ∷ 54 ∷ 55 ∷ 52 ∷ 52 ∷ 48 ∷ 55 ∷ 51 ∷ 55 ∷ 48 ∷ 57 ∷ 53 ∷ 53 ∷ 49 ∷ 54 ∷ 49 ∷ 54 ∷ []) ≡ None
 unfolding decimal unpadded digits value
 long_refused = refl
 
 -- `10.1.0.0/255.255.255.0` is 10.1.0.0 to 10.1.0.255; mask 255.0.255.0 is none; 10.0.0.1/255.0.0.0 is none.
-mask_read : masked_range (Is 167837696) (Is 4294967040) ≡ some (range 167837696 167837951)
+mask_read : masked_range (Some 167837696) (Some 4294967040) ≡ some (range 167837696 167837951)
 unfolding mask_below in_field
 mask_read = refl
 
-mask_with_holes : masked_range (Is 0) (Is 4278255360) ≡ none
+mask_with_holes : masked_range (Some 0) (Some 4278255360) ≡ none
 unfolding mask_below in_field
 mask_with_holes = refl
 
-address_beyond_mask : masked_range (Is 167772161) (Is 4278190080) ≡ none
+address_beyond_mask : masked_range (Some 167772161) (Some 4278190080) ≡ none
 unfolding mask_below in_field
 address_beyond_mask = refl
 

@@ -1,7 +1,9 @@
 -- Decimals, read and printed. Assumes nothing: these are definitions.
-use Rattle.std.specs.Prelude.{ℕ, zero, suc, ◌+◌, ◌-◌, ◌*◌, ◌/◌, ◌%◌, Bool, true, false, cond, not, ◌&&◌, List, [], ◌∷◌, ◌++◌, leb, ltb, eqb}
-use Rattle.policy_text.specs.declared.Number.{Number}
-use Rattle.policy_text.specs.declared.Number.TheVariants.{Is, Bad}
+use Rattle.std.specs.Prelude.{ℕ, zero, suc, ◌+◌, ◌-◌, ◌*◌, ◌/◌, ◌%◌, Bool, true, false, cond, not, ◌&&◌, List, [], ◌∷◌, ◌++◌, leb, ltb, eqb, Option, Some, None}
+
+-- A number that a text stands for, or none.
+abbrev pub Number : Type 0
+Number = Option ℕ
 
 unfoldable pub digits : List ℕ → Bool
 digits [] = true
@@ -20,7 +22,7 @@ unpadded (c ∷ d ∷ s) = not (eqb c 48)
 
 -- A decimal that is at most max, however long its text.
 unfoldable pub decimal : ℕ → List ℕ → Number
-decimal max s = cond (unpadded s && digits s && leb (value 0 s) max) (Is (value 0 s)) Bad
+decimal max s = cond (unpadded s && digits s && leb (value 0 s) max) (Some (value 0 s)) None
 
 -- The decimal of a number of at most k digits, and of a number below 2^64.
 unfoldable pub last_digits : ℕ → ℕ → List ℕ

@@ -1,13 +1,11 @@
 -- Edition 1 of the policy file: IPv4 (document 01). Assumes nothing: these are definitions.
-use Rattle.std.specs.Prelude.{ℕ, zero, suc, ◌+◌, ◌-◌, ◌*◌, ◌/◌, ◌%◌, ◌^◌, Bool, false, cond, ◌||◌, List, [], ◌∷◌, ◌++◌, eqb}
+use Rattle.std.specs.Prelude.{ℕ, zero, suc, ◌+◌, ◌-◌, ◌*◌, ◌/◌, ◌%◌, ◌^◌, Bool, false, cond, ◌||◌, List, [], ◌∷◌, ◌++◌, eqb, Some, None}
 use Rattle.std.proofs.Math.Option.{Option, none, some}
 use Rattle.selectors.specs.Range.{Range, full, absent, address_size, protocol_size, port_size}
 use Rattle.policy.specs.declared.Action.{Action}
 use Rattle.policy.specs.declared.Action.TheVariants.{Discard, Bypass, Protect}
-use Rattle.policy_text.specs.declared.Number.{Number}
-use Rattle.policy_text.specs.declared.Number.TheVariants.{Is, Bad}
 use Rattle.policy_text.specs.Bytes.{tab, lf, dash, dot, slash, has, before, after, are_same_bytes}
-use Rattle.policy_text.specs.Decimals.{decimal, decimal_text}
+use Rattle.policy_text.specs.Decimals.{Number, decimal, decimal_text}
 use Rattle.policy_text.specs.Format.{Field, Format, any, made, ends}
 
 -- 'The first is `policy`, tab, `1`': nine bytes with the LF.
@@ -29,11 +27,11 @@ protect_word = 112 ∷ 114 ∷ 111 ∷ 116 ∷ 101 ∷ 99 ∷ 116 ∷ []
 
 -- 'An address is four decimals parted by dots'. A text with fewer dots has an empty decimal here, one with more a dot in the last.
 abbrev pub four_octets : Number → Number → Number → Number → Number
-four_octets Bad b c d = Bad
-four_octets (Is a) Bad c d = Bad
-four_octets (Is a) (Is b) Bad d = Bad
-four_octets (Is a) (Is b) (Is c) Bad = Bad
-four_octets (Is a) (Is b) (Is c) (Is d) = Is (((a * 256 + b) * 256 + c) * 256 + d)
+four_octets None b c d = None
+four_octets (Some a) None c d = None
+four_octets (Some a) (Some b) None d = None
+four_octets (Some a) (Some b) (Some c) None = None
+four_octets (Some a) (Some b) (Some c) (Some d) = Some (((a * 256 + b) * 256 + c) * 256 + d)
 
 unfoldable pub address : List ℕ → Number
 address s =
@@ -52,9 +50,9 @@ is_mask m = mask_below 33 m
 -- 'address/mask, where the mask is ones followed by zeros and the address has no one where the mask has zero': a mask with k zeros is
 -- short of 2^32 by 2^k, and the address has none there just if it is a multiple of that. It stands for the addresses from there on.
 abbrev pub masked_range : Number → Number → Option Range
-masked_range Bad m = none
-masked_range (Is a) Bad = none
-masked_range (Is a) (Is m) =
+masked_range None m = none
+masked_range (Some a) None = none
+masked_range (Some a) (Some m) =
     cond (is_mask m) (cond (eqb (a % (2 ^ 32 - m)) 0) (made address_size a (a + (2 ^ 32 - m - 1))) none) none
 
 -- 'Every range may be `any`', one value or `low-high`; an address 'may also be address/mask'.
@@ -68,15 +66,15 @@ protocol_field s = cond (are_same_bytes s any) (some (full protocol_size)) (ends
 
 -- 'A port may be `opaque` or `N-opaque`.'
 abbrev pub port_end : List ℕ → Number
-port_end s = cond (are_same_bytes s opaque_word) (Is absent) (decimal 65535 s)
+port_end s = cond (are_same_bytes s opaque_word) (Some absent) (decimal 65535 s)
 
 unfoldable pub port_field : List ℕ → Option Range
 port_field s = cond (are_same_bytes s any) (some (full port_size)) (ends port_size (decimal 65535) port_end s)
 
 -- 'Action (`bypass`, `discard`, `protect-N`, N from 1 to 255)'.
 abbrev pub protect : Number → Option Action
-protect Bad = none
-protect (Is n) = cond (eqb n 0) none (some (Protect n))
+protect None = none
+protect (Some n) = cond (eqb n 0) none (some (Protect n))
 
 unfoldable pub action_field : List ℕ → Option Action
 action_field s =

@@ -1,5 +1,5 @@
 -- What an edition of the policy file is, and its rows, read (document 01; docs/RULES.md has them with examples). Assumes nothing: these are definitions.
-use Rattle.std.specs.Prelude.{ℕ, zero, suc, ◌+◌, ◌≤◌, cond, List, [], ◌∷◌}
+use Rattle.std.specs.Prelude.{ℕ, zero, suc, ◌+◌, ◌≤◌, cond, List, [], ◌∷◌, Some, None}
 use Rattle.std.proofs.Math.Option.{Option, none, some}
 use Rattle.selectors.specs.Range.{Range, range, in_field}
 use Rattle.selectors.specs.declared.Direction.TheVariants.{Out, In}
@@ -7,8 +7,7 @@ use Rattle.policy.specs.declared.Action.{Action}
 use Rattle.policy.specs.declared.RowDirection.{RowDirection}
 use Rattle.policy.specs.declared.RowDirection.TheVariants.{Only, Both}
 use Rattle.policy.specs.Policy.{PolicyRow}
-use Rattle.policy_text.specs.declared.Number.{Number}
-use Rattle.policy_text.specs.declared.Number.TheVariants.{Is, Bad}
+use Rattle.policy_text.specs.Decimals.{Number}
 use Rattle.policy_text.specs.Bytes.{tab, lf, dash, has, before, after, are_same_bytes}
 
 -- A field of an edition: the count of its values, the range that a text stands for, and the text of a value.
@@ -47,17 +46,17 @@ both_word = 98 ∷ 111 ∷ 116 ∷ 104 ∷ []
 
 -- A number of at most max, or none.
 abbrev pub AtMost : ℕ → Number → Type 0
-AtMost max Bad = Unit
-AtMost max (Is n) = n ≤ max
+AtMost max None = Unit
+AtMost max (Some n) = n ≤ max
 
 -- The range from low to high: 'low at most high', and both values of a field of that size.
 abbrev pub made : ℕ → ℕ → ℕ → Option Range
 made size low high = cond (in_field size (range low high)) (some (range low high)) none
 
 abbrev pub spanned : ℕ → Number → Number → Option Range
-spanned size Bad high = none
-spanned size (Is a) Bad = none
-spanned size (Is a) (Is b) = made size a b
+spanned size None high = none
+spanned size (Some a) None = none
+spanned size (Some a) (Some b) = made size a b
 
 -- 'One value, or `low-high` with low at most high'; the last value is read by a rule of its own, for ports.
 abbrev pub ends : ℕ → (List ℕ → Number) → (List ℕ → Number) → List ℕ → Option Range

@@ -1,28 +1,16 @@
 // The format of policy files (document 01; docs/RULES.md, 'The policy file'): texts, cuts at a byte, and decimals; specs/ has the whole format.
 #![tactic(auto)]
 
-ghost use Rattle.std.specs.Prelude.{◌≡◌, ◌≤◌, ◌<◌, length};
-ghost use Rattle.policy_text.specs.Bytes.{index, before, after, count, are_same_bytes};
+ghost use Rattle.std.specs.Prelude.{◌≡◌, ◌≤◌, length, IfSome};
+ghost use Rattle.policy_text.specs.Bytes.{index, before, after, count};
 ghost use Rattle.policy_text.specs.Decimals.{unpadded, decimal};
+ghost use Rattle.policy_text.specs.declared.ParseError.TheVariants.{Refused};
 
-// A number that a text stands for, or none.
-#[derive(Clone, Copy)]
-pub enum Number {
-    Is(u64),
-    Bad,
-}
-
+// Where the first byte `b` stands, or the text's length.
 pub fn find(s: &[u8], b: u8) -> usize
     ensures { (result ≡ index b s.now) × (result ≤ length s.now) }
 {
-    let mut i: usize = 0;
-    while i < s.len() {
-        if s[i] == b {
-            return i;
-        }
-        i += 1;
-    }
-    i
+    s.iter().position(|x| *x == b).unwrap_or(s.len())
 }
 
 pub fn before(s: &[u8], b: u8) -> &[u8]
@@ -37,8 +25,7 @@ pub fn after(s: &[u8], b: u8) -> &[u8]
 {
     let end = find(s, b);
     if end < s.len() {
-        let next = end + 1;
-        return &s[next..];
+        return &s[end + 1..];
     }
     &s[end..]
 }
@@ -46,80 +33,42 @@ pub fn after(s: &[u8], b: u8) -> &[u8]
 pub fn count(s: &[u8], b: u8) -> usize
     ensures { result ≡ count b s.now }
 {
-    let mut n: usize = 0;
-    let mut i: usize = 0;
-    while i < s.len() {
-        if s[i] == b {
-            n += 1;
-        }
-        i += 1;
-    }
-    n
-}
-
-pub fn same(s: &[u8], t: &[u8]) -> bool
-    ensures { result ≡ are_same_bytes s.now t.now }
-{
-    let mut i: usize = 0;
-    while i < s.len() {
-        if t.len() <= i {
-            return false;
-        }
-        if s[i] != t[i] {
-            return false;
-        }
-        i += 1;
-    }
-    t.len() <= i
+    s.iter().filter(|x| **x == b).count()
 }
 
 fn unpadded(s: &[u8]) -> bool
     ensures { result ≡ unpadded s.now }
 {
-    if s.len() == 0 {
-        return false;
+    match s {
+        [] => false,
+        [_] => true,
+        [first, ..] => *first != b'0',
     }
-    if s.len() == 1 {
-        return true;
-    }
-    s[0] != b'0'
 }
 
-fn wide(byte: u8) -> u64
-    ensures { (result ≡ byte) × (result < 256) }
-{
-    byte as u64
-}
-
-pub fn decimal(s: &[u8], max: u16) -> Number
-    ensures { result ≡ decimal max s.now }
+// The number that a text stands for, if it is at most `max`.
+pub fn decimal(s: &[u8], max: u16) -> Option<u64>
+    ensures value { result ≡ decimal max s.now }
+    ensures within { IfSome result (λ n. n ≤ max) }
 {
     if !unpadded(s) {
-        return Number::Bad;
+        return None;
     }
-    let top = max as u64;
     let mut n: u64 = 0;
-    let mut i: usize = 0;
-    while i < s.len() {
-        let c = s[i];
-        if c < b'0' {
-            return Number::Bad;
+    for c in s {
+        if !c.is_ascii_digit() {
+            return None;
         }
-        if b'9' < c {
-            return Number::Bad;
+        n = n * 10 + u64::from(*c - b'0');
+        if u64::from(max) < n {
+            return None;
         }
-        let more = n * 10 + wide(c - b'0');
-        if top < more {
-            return Number::Bad;
-        }
-        n = more;
-        i += 1;
     }
-    Number::Is(n)
+    Some(n)
 }
 
 // Why a file is no policy: document 01's 23, 24, 21 and 20.
-#[derive(Clone, Copy)]
+#[derive(Clone, Copy, Debug, PartialEq, Eq)]
 pub enum Refusal {
     NotHeader,
     NotEnded,
@@ -129,26 +78,31 @@ pub enum Refusal {
 }
 
 // The editions of the policy file, by their header lines.
-#[derive(Clone, Copy)]
+#[derive(Clone, Copy, Debug, PartialEq, Eq)]
 pub enum Edition {
     // `policy`, tab, `1`.
     One,
 }
 
-// A policy file, to a caller with room for its rows.
-#[derive(Clone, Copy)]
-pub enum File {
-    // The edition and the count of rows.
-    Rows(Edition, usize),
-    Refused(Refusal),
+// A file that is a policy: its edition and the count of its rows.
+#[derive(Clone, Copy, Debug, PartialEq, Eq)]
+pub struct Rows {
+    pub edition: Edition,
+    pub count: usize,
 }
 
-// What parsing a policy file into a lent room answers.
-#[derive(Clone, Copy)]
-pub enum Parsed {
-    // The edition and the count of rows.
-    Rows(Edition, usize),
+// Why a file was not parsed into a lent room.
+#[derive(Clone, Copy, Debug, PartialEq, Eq)]
+pub enum ParseError {
     Refused(Refusal),
     // The rows are good, and the lent room is too short for them.
     NoRoom,
+}
+
+impl From<Refusal> for ParseError {
+    ghost from_gives = { λ refusal error. error ≡ Refused refusal };
+
+    fn from(refusal: Refusal) -> ParseError {
+        ParseError::Refused(refusal)
+    }
 }

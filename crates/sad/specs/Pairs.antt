@@ -1,20 +1,17 @@
 -- The table of SA pairs as words, and what any words mean (document 01, 'Cache and associations'). Assumes nothing: these are definitions.
 -- 64 places of 24 words each: protocol, inbound SPI, outbound SPI, protect number, and a range for each of five fields.
-use Rattle.std.specs.Prelude.{ℕ, zero, suc, ◌+◌, ◌*◌, Bool, true, false, not, cond, ◌&&◌, ◌||◌, List, [], ◌∷◌, ltb, leb, eqb, length, get_or, set}
-use Rattle.std.proofs.Math.Option.{Option, none, some}
+use Rattle.std.specs.Prelude.{ℕ, zero, suc, ◌+◌, ◌*◌, Bool, true, false, not, cond, ◌&&◌, ◌||◌, Option, Some, None, Result, Ok, Err, List, [], ◌∷◌, ltb, leb, eqb, length, get_or, set}
 use Rattle.std.proofs.lemmas.List.Edits.{sets}
 use Rattle.selectors.specs.Range.{Range, in_field, address_size, protocol_size, port_size, holds}
 use Rattle.selectors.specs.Ranges.{ends_range, five_ranges}
 use Rattle.selectors.specs.Words.{ranges_words, ranges_at, words_of_ranges}
-use Rattle.selectors.specs.declared.Ends.{Ends}
-use Rattle.selectors.specs.declared.Ranges.{Ranges}
+use Rattle.selectors.specs.declared.Fields.{Fields}
+use Rattle.selectors.specs.declared.ranges.Ends.{Ends}
 use Rattle.sad.specs.declared.NewPair.{NewPair}
-use Rattle.sad.specs.declared.Place.{Place}
-use Rattle.sad.specs.declared.Place.TheVariants.{At, Nowhere}
-use Rattle.sad.specs.declared.Outcome.{Outcome}
-use Rattle.sad.specs.declared.Outcome.TheVariants.{Done, ReservedSpi, AlreadyLive, TableFull, BadPair, NothingToRemove}
-use Rattle.sad.specs.declared.PairFound.{PairFound}
-use Rattle.sad.specs.declared.PairFound.TheVariants.{Found, Nothing}
+use Rattle.sad.specs.declared.PairError.{PairError}
+use Rattle.sad.specs.declared.PairError.TheVariants.{ReservedSpi, AlreadyLive, TableFull, BadPair, NothingToRemove}
+use Rattle.sad.specs.declared.Sa.{Sa}
+use Rattle.sad.specs.declared.Head.{Head}
 
 -- 'An association pair: protocol (50 ESP, 51 AH), inbound SPI, outbound SPI, protect number, five ranges.'
 pub record Pair : Type 0 where
@@ -93,30 +90,34 @@ before q b = ltb q.inbound_spi b.inbound_spi || (eqb q.inbound_spi b.inbound_spi
 
 -- Whether a pair beats the best so far.
 abbrev pub beats : Pair → Option Pair → Bool
-beats q none = true
-beats q (some b) = before q b
+beats q None = true
+beats q (Some b) = before q b
 
 unfoldable pub best_of : ℕ → List ℕ → Option Pair → List Pair → Option Pair
 best_of number vs b [] = b
-best_of number vs b (q ∷ qs) = best_of number vs (cond (wanted number vs q && beats q b) (some q) b) qs
+best_of number vs b (q ∷ qs) = best_of number vs (cond (wanted number vs q && beats q b) (Some q) b) qs
 
-abbrev pub found_pair : Option Pair → PairFound
-found_pair none = Nothing
-found_pair (some q) = Found q.protocol q.outbound_spi
+-- The pair's protocol and outbound SPI.
+abbrev pub found_sa : Pair → Sa
+found_sa q = record { protocol = q.protocol; spi = q.outbound_spi }
 
-unfoldable pub pair_for : ℕ → List ℕ → List Pair → PairFound
-pair_for number vs qs = found_pair (best_of number vs none qs)
+abbrev pub found_pair : Option Pair → Option Sa
+found_pair None = None
+found_pair (Some q) = Some (found_sa q)
+
+unfoldable pub pair_for : ℕ → List ℕ → List Pair → Option Sa
+pair_for number vs qs = found_pair (best_of number vs None qs)
 
 -- By places, as the code searches. The first of n places from the place i on for which a test holds.
-unfoldable pub first_from : (ℕ → Bool) → ℕ → ℕ → Place
-first_from test i zero = Nowhere
-first_from test i (suc n) = cond (test i) (At i) (first_from test (suc i) n)
+unfoldable pub first_from : (ℕ → Bool) → ℕ → ℕ → Option ℕ
+first_from test i zero = None
+first_from test i (suc n) = cond (test i) (Some i) (first_from test (suc i) n)
 
 -- The place of a live pair of that name.
 abbrev pub named_at : List ℕ → ℕ → ℕ → ℕ → Bool
 named_at ws protocol spi i = is_live_at ws i && named protocol spi (pair_at ws i)
 
-abbrev pub place_of : List ℕ → ℕ → ℕ → Place
+abbrev pub place_of : List ℕ → ℕ → ℕ → Option ℕ
 place_of ws protocol spi = first_from (named_at ws protocol spi) 0 place_count
 
 -- Whether there is such a place and its ranges hold the values. That a pair lives there is not asked.
@@ -127,25 +128,32 @@ fits_at ws i vs = ltb i place_count && holds (pair_at ws i).ranges vs
 abbrev pub free_at : List ℕ → ℕ → Bool
 free_at ws i = not (is_live_at ws i)
 
-abbrev pub free_place : List ℕ → Place
+abbrev pub free_place : List ℕ → Option ℕ
 free_place ws = first_from (free_at ws) 0 place_count
 
--- The best so far as a place: 64 and more are none.
-unfoldable pub chosen : List ℕ → ℕ → Option Pair
-chosen ws best = cond (ltb best place_count) (some (pair_at ws best)) none
+-- What the words of a place before its ranges say of its pair, and whether such words beat the best so far.
+abbrev pub head_of : Pair → Head
+head_of q = record { protocol = q.protocol; spi_in = q.inbound_spi; spi_out = q.outbound_spi; number = q.number }
 
--- The best so far after one more place.
-unfoldable pub better_of : List ℕ → ℕ → List ℕ → ℕ → ℕ → ℕ
-better_of ws number vs best i = cond (is_live_at ws i && wanted number vs (pair_at ws i) && beats (pair_at ws i) (chosen ws best)) i best
+abbrev pub head_beats : Head → Option Head → Bool
+head_beats h None = true
+head_beats h (Some b) = ltb h.spi_in b.spi_in || (eqb h.spi_in b.spi_in && ltb h.protocol b.protocol)
+
+-- What adding and removing a pair answer.
+abbrev pub Outcome : Type 0
+Outcome = Result (Unit {0}) PairError
+
+abbrev pub done : Outcome
+done = Ok tt
 
 -- Document 01's numbers.
 abbrev pub outcome_number : Outcome → ℕ
-outcome_number Done = 5
-outcome_number ReservedSpi = 25
-outcome_number AlreadyLive = 26
-outcome_number TableFull = 27
-outcome_number BadPair = 28
-outcome_number NothingToRemove = 29
+outcome_number (Ok unit) = 5
+outcome_number (Err ReservedSpi) = 25
+outcome_number (Err AlreadyLive) = 26
+outcome_number (Err TableFull) = 27
+outcome_number (Err BadPair) = 28
+outcome_number (Err NothingToRemove) = 29
 
 -- 'Either SPI below 256.'
 abbrev pub first_spi : ℕ
@@ -161,7 +169,7 @@ last_number = 255
 abbrev pub ends_in : ℕ → Ends → Bool
 ends_in size e = in_field size (ends_range e)
 
-unfoldable pub ranges_in_fields : Ranges → Bool
+unfoldable pub ranges_in_fields : Fields Ends → Bool
 ranges_in_fields r =
     ends_in address_size r.local
     && ends_in address_size r.remote
@@ -175,10 +183,10 @@ well_formed p = ipsec p.protocol && leb 1 p.number && leb p.number last_number &
 -- 'An added pair: 25, 28, 26, 27.'
 unfoldable pub add_outcome : List Pair → NewPair → Outcome
 add_outcome qs p =
-    cond (reserved_spi p) ReservedSpi
-    (cond (not (well_formed p)) BadPair
-    (cond (live p.protocol p.spi_in qs) AlreadyLive
-    (cond (leb place_count (length qs)) TableFull Done)))
+    cond (reserved_spi p) (Err ReservedSpi)
+    (cond (not (well_formed p)) (Err BadPair)
+    (cond (live p.protocol p.spi_in qs) (Err AlreadyLive)
+    (cond (leb place_count (length qs)) (Err TableFull) done)))
 
 -- The pair that is added, and its words.
 abbrev pub new_pair : NewPair → Pair
@@ -194,29 +202,25 @@ new_pair p =
 unfoldable pub pair_words : NewPair → List ℕ
 pair_words p = p.protocol ∷ p.spi_in ∷ p.spi_out ∷ p.number ∷ words_of_ranges (five_ranges p.ranges)
 
-abbrev pub put_at : List ℕ → NewPair → Place → List ℕ
-put_at ws p (At i) = sets ws (i * place_words) (pair_words p)
-put_at ws p Nowhere = ws
+abbrev pub put_at : List ℕ → NewPair → Option ℕ → List ℕ
+put_at ws p (Some i) = sets ws (i * place_words) (pair_words p)
+put_at ws p None = ws
 
 -- The table afterwards: a refusal changes nothing.
 abbrev pub added_if : List ℕ → NewPair → Outcome → List ℕ
-added_if ws p Done = put_at ws p (free_place ws)
-added_if ws p ReservedSpi = ws
-added_if ws p AlreadyLive = ws
-added_if ws p TableFull = ws
-added_if ws p BadPair = ws
-added_if ws p NothingToRemove = ws
+added_if ws p (Ok unit) = put_at ws p (free_place ws)
+added_if ws p (Err e) = ws
 
 unfoldable pub added : List ℕ → NewPair → List ℕ
 added ws p = added_if ws p (add_outcome (pairs ws) p)
 
 -- 'A removal, whatever it names: 29 only.'
 unfoldable pub remove_outcome : List Pair → ℕ → ℕ → Outcome
-remove_outcome qs protocol spi = cond (live protocol spi qs) Done NothingToRemove
+remove_outcome qs protocol spi = cond (live protocol spi qs) done (Err NothingToRemove)
 
-abbrev pub cleared_at : List ℕ → Place → List ℕ
-cleared_at ws (At i) = set ws (i * place_words) 0
-cleared_at ws Nowhere = ws
+abbrev pub cleared_at : List ℕ → Option ℕ → List ℕ
+cleared_at ws (Some i) = set ws (i * place_words) 0
+cleared_at ws None = ws
 
 unfoldable pub removed : List ℕ → ℕ → ℕ → List ℕ
 removed ws protocol spi = cleared_at ws (place_of ws protocol spi)

@@ -1,10 +1,9 @@
 -- Laws of ranges. Assumes nothing.
-use Rattle.std.specs.Prelude.{ℕ, zero, suc, ◌+◌, ◌≤◌, ◌<◌, ◌≡◌, ◌↔◌, refl, Bool, true, false, not, ◌&&◌, List, [], ◌∷◌, leb, ltb, eqb, length, get_or}
-use Rattle.std.proofs.Common.{arith, add-one, ap, le-leb, leb-true, lt-ltb, le-ltb, eq-eqb, ne_eqb, eqb-true}
+use Rattle.std.specs.Prelude.{ℕ, zero, suc, ◌-◌, ◌≤◌, ◌<◌, ◌≡◌, ◌↔◌, refl, Bool, true, false, not, ◌&&◌, List, [], ◌∷◌, leb, ltb, eqb, length, get_or}
+use Rattle.std.proofs.Common.{arith, ap, le-leb, leb-true, lt-ltb, le-ltb, eq-eqb, ne_eqb, eqb-true}
 use Rattle.std.proofs.Math.Decide.{dec_le, dec_lt, ℕ_discrete}
 use Rattle.std.proofs.Math.Bool.{and-false}
 use Rattle.std.proofs.lemmas.Bool.{false≢true, lt-leb}
-use Rattle.std.proofs.Math.Dec.{leb-suc-suc}
 use Rattle.selectors.specs.Range.{Range, range, contains, holds, in_field, same_range, full, opaque, absent, port_size}
 
 -- Both of two tests that hold together hold.
@@ -38,18 +37,22 @@ not-ltb a b = by (dec_le b a)
     by (no h) = rw (lt-ltb a b (omega arith), lt-leb b a (omega arith))
 
 -- A range by two tests of order: below its low end it holds nothing, and from there on what is not above its high end.
-pub contains_not_below : (r : Range) (v : ℕ) → r.low ≤ v → not (ltb r.high v) ≡ contains r v
+pub contains_from : (r : Range) (v : ℕ) → r.low ≤ v → leb v r.high ≡ contains r v
 unfolding contains
-contains_not_below r v p = rw (le-leb r.low v p) (not-ltb r.high v)
+contains_from r v p = rw (le-leb r.low v p)
 
--- A range of a field whose highest value is h, by two tests of order.
+-- A range of a field, by two tests of order.
 pub in_field_reversed : (size : ℕ) (r : Range) → r.high < r.low → in_field size r ≡ false
 unfolding in_field
 in_field_reversed size r p = rw (lt-leb r.low r.high p)
 
-pub in_field_ordered : (h : ℕ) (r : Range) → r.low ≤ r.high → not (ltb h r.high) ≡ in_field (h + 1) r
+pub in_field_beyond : (size : ℕ) (r : Range) → 0 < size → size - 1 < r.high → in_field size r ≡ false
 unfolding in_field
-in_field_ordered h r p = rw (le-leb r.low r.high p, add-one, leb-suc-suc) (not-ltb h r.high)
+in_field_beyond size r s p = rw (le-ltb r.high size (omega arith)) (and-false (leb r.low r.high))
+
+pub in_field_within : (size : ℕ) (r : Range) → 0 < size → r.low ≤ r.high → r.high ≤ size - 1 → in_field size r ≡ true
+unfolding in_field
+in_field_within size r s p q = rw (le-leb r.low r.high p, lt-ltb r.high size (omega arith))
 
 -- No range whose high end is a port number holds absent: it is not a number. A range holds absent exactly where it begins at absent or below
 -- and ends at absent or beyond.

@@ -8,8 +8,13 @@ ghost use Rattle.spd.specs.Words.{address_of, count_at, rows_at, rows_of};
 use policy::{LIMIT, POLICY_WORDS, ROW_WORDS};
 use selectors::Direction;
 
-// Where the rows for out begin, after the address and the counts of rows, and where those for in.
-pub const OUT_ROWS: usize = 3;
+// Where the counts of rows stand, after the address.
+const OUT_COUNT: usize = 1;
+
+const IN_COUNT: usize = OUT_COUNT + 1;
+
+// Where the rows for out begin, after the counts, and where those for in.
+pub const OUT_ROWS: usize = IN_COUNT + 1;
 
 pub const IN_ROWS: usize = OUT_ROWS + POLICY_WORDS;
 
@@ -20,8 +25,8 @@ fn count_at(direction: Direction) -> usize
     ensures { (result ≡ count_at direction) × (result < 3) }
 {
     match direction {
-        Direction::Out => 1,
-        Direction::In => 2,
+        Direction::Out => OUT_COUNT,
+        Direction::In => IN_COUNT,
     }
 }
 
@@ -31,17 +36,6 @@ fn rows_at(direction: Direction) -> usize
     match direction {
         Direction::Out => OUT_ROWS,
         Direction::In => IN_ROWS,
-    }
-}
-
-// A count of rows, never more than there is room for.
-fn capped(count: u64) -> usize
-    ensures { result ≡ min count row_limit }
-{
-    if count < LIMIT as u64 {
-        count as usize
-    } else {
-        LIMIT
     }
 }
 
@@ -56,9 +50,8 @@ pub fn address_of(words: &[u64; SPD_WORDS]) -> u64
 pub fn rows_of(words: &[u64; SPD_WORDS], direction: Direction) -> &[u64]
     ensures { result.now ≡ rows_of row_limit words.now direction }
 {
-    let all: &[u64] = words;
-    let count = capped(all[count_at(direction)]);
+    // Never more rows than there is room for.
+    let count = words[count_at(direction)].min(LIMIT as u64) as usize;
     let start = rows_at(direction);
-    let end = start + count * ROW_WORDS;
-    &all[start..end]
+    &words[start..start + count * ROW_WORDS]
 }

@@ -5,7 +5,7 @@ use Rattle.std.proofs.Common.{add-zero, sym, ◌∙◌, length-drop, take-append
 use Rattle.std.proofs.Math.Nat.{sub-zero, zero-sub}
 use Rattle.std.proofs.Math.Numerals.{add-one}
 use Rattle.std.proofs.Math.Path.{◌≡◌, refl, ap}
-use Rattle.std.specs.Prelude.{Bool, ◌⊎◌, length, take, drop}
+use Rattle.std.specs.Prelude.{Bool, Option, Some, None, ◌⊎◌, length, take, drop}
 use Rattle.std.proofs.Math.Bool.{true, false}
 use mathlib.Core.List.Memᴰ
 use mathlib.Core.List.{List, [], ◌∷◌, ◌++◌, Memᴰ}
@@ -14,8 +14,6 @@ use Rattle.std.proofs.lemmas.List.{length-replicate}
 use Rattle.std.proofs.lemmas.List.Edits.{length-paste}
 use Rattle.selectors.specs.declared.Direction.{Direction}
 use Rattle.selectors.proofs.StoresLaws.{paste-before, paste_in, paste-after}
-use Rattle.policy.specs.declared.Found.{Found}
-use Rattle.policy.specs.declared.Found.TheVariants.{Row, Nothing}
 use Rattle.policy.specs.Policy.{PolicyRow, matches, ordered_search, match_from}
 use Rattle.policy.specs.Words.{row_at, rows_from, row_words, policy_rows}
 use Rattle.policy.proofs.WordsLaws.{action_found, search_match}
@@ -131,14 +129,14 @@ module _ (d : Direction) (ws : List ℕ) (vs : List ℕ) where
   Matched : ℕ → ℕ → ℕ → Type 0
   Matched i n j = Memᴰ (row_at ws (j * row_words)) (rows_from ws i n) × (matches d (row_at ws (j * row_words)) vs ≡ true)
 
-  matched : (i n j : ℕ) → match_from i d (rows_from ws i n) vs ≡ Row j → Matched i n j
+  matched : (i n j : ℕ) → match_from i d (rows_from ws i n) vs ≡ Some j → Matched i n j
   unfolding rows_from match_from Matched
   matched i zero j e = let z : ◌≡◌ {A = ℕ} 0 1 = cc in absurd (omega arith)
   matched i (suc n) j e = by (matches d (row_at ws (i * row_words)) vs) refl (matched (suc i) n j)
     where
       by : (b : Bool) → matches d (row_at ws (i * row_words)) vs ≡ b
-          → (match_from (suc i) d (rows_from ws (suc i) n) vs ≡ Row j → Matched (suc i) n j) → Matched i (suc n) j
-      by true h ih = let k : Row i ≡ Row j = rw h at e in let l : i ≡ j = cc in rw (← l) (Memᴰ.head refl, h)
+          → (match_from (suc i) d (rows_from ws (suc i) n) vs ≡ Some j → Matched (suc i) n j) → Matched i (suc n) j
+      by true h ih = let k : Some i ≡ Some j = rw h at e in let l : i ≡ j = cc in rw (← l) (Memᴰ.head refl, h)
       by false h ih = let m = ih (rw h at e) in (Memᴰ.tail m.0, m.1)
 
 -- A lookup in filled slots: they stay filled, and a cached row afterwards is an old one or a row of `rows`.
@@ -146,23 +144,23 @@ module _ (c : Cache) (rows : List ℕ) (d : Direction) (vs : List ℕ) where
   pub lookup_filled : Filled c → Filled (looked_up c rows d vs).cache
   lookup_filled f = by (match_from 0 d (cached c) vs) refl (match_from 0 d (policy_rows rows) vs) refl
     where
-      by : (slot : Found) → match_from 0 d (cached c) vs ≡ slot → (found : Found) → match_from 0 d (policy_rows rows) vs ≡ found
+      by : (slot : Option ℕ) → match_from 0 d (cached c) vs ≡ slot → (found : Option ℕ) → match_from 0 d (policy_rows rows) vs ≡ found
           → Filled (looked_up c rows d vs).cache
-      by (Row i) e found g = rw (lookup_hit c rows d vs i e) f
-      by Nothing e (Row j) g = rw (lookup_miss c rows d vs j e g) (stored_filled c rows j f (row_bound rows d vs j g))
-      by Nothing e Nothing g = rw (lookup_none c rows d vs e g) f
+      by (Some i) e found g = rw (lookup_hit c rows d vs i e) f
+      by None e (Some j) g = rw (lookup_miss c rows d vs j e g) (stored_filled c rows j f (row_bound rows d vs j g))
+      by None e None g = rw (lookup_none c rows d vs e g) f
 
   pub lookup_mem : Filled c → (r : PolicyRow) → Memᴰ r (cached (looked_up c rows d vs).cache) → Memᴰ r (cached c) ⊎ Memᴰ r (policy_rows rows)
   unfolding Matched
   lookup_mem f r m = by (match_from 0 d (cached c) vs) refl (match_from 0 d (policy_rows rows) vs) refl
     where
-      by : (slot : Found) → match_from 0 d (cached c) vs ≡ slot → (found : Found) → match_from 0 d (policy_rows rows) vs ≡ found
+      by : (slot : Option ℕ) → match_from 0 d (cached c) vs ≡ slot → (found : Option ℕ) → match_from 0 d (policy_rows rows) vs ≡ found
           → Memᴰ r (cached c) ⊎ Memᴰ r (policy_rows rows)
-      by (Row i) e found g = inl (rw (lookup_hit c rows d vs i e) at m)
-      by Nothing e (Row j) g =
+      by (Some i) e found g = inl (rw (lookup_hit c rows d vs i e) at m)
+      by None e (Some j) g =
           ⊎_elim inl (λ q. inr (rw q (matched d rows vs 0 _ j g).0))
           (stored_mem c rows j f (row_bound rows d vs j g) r (rw (lookup_miss c rows d vs j e g) at m))
-      by Nothing e Nothing g = inl (rw (lookup_none c rows d vs e g) at m)
+      by None e None g = inl (rw (lookup_none c rows d vs e g) at m)
 
   -- A lookup answers as the ordered search of `rows` does, if each cached row that matches has that action.
   pub lookup_action : ((r : PolicyRow) → Memᴰ r (cached c) → matches d r vs ≡ true → r.action ≡ ordered_search d (policy_rows rows) vs)
@@ -170,10 +168,10 @@ module _ (c : Cache) (rows : List ℕ) (d : Direction) (vs : List ℕ) where
   unfolding Matched row_at action_found
   lookup_action h = by (match_from 0 d (cached c) vs) refl (match_from 0 d (policy_rows rows) vs) refl
     where
-      by : (slot : Found) → match_from 0 d (cached c) vs ≡ slot → (found : Found) → match_from 0 d (policy_rows rows) vs ≡ found
+      by : (slot : Option ℕ) → match_from 0 d (cached c) vs ≡ slot → (found : Option ℕ) → match_from 0 d (policy_rows rows) vs ≡ found
           → (looked_up c rows d vs).action ≡ ordered_search d (policy_rows rows) vs
-      by (Row i) e found g =
+      by (Some i) e found g =
           let m = matched d (in_use c) vs 0 _ i e in
           ap (λ (l : Looked). l.action) (lookup_hit c rows d vs i e) ∙ h (row_at (in_use c) (i * row_words)) m.0 m.1
-      by Nothing e (Row j) g = rw (lookup_miss c rows d vs j e g, search_match d rows vs 0 _, g)
-      by Nothing e Nothing g = rw (lookup_none c rows d vs e g, search_match d rows vs 0 _, g)
+      by None e (Some j) g = rw (lookup_miss c rows d vs j e g, search_match d rows vs 0 _, g)
+      by None e None g = rw (lookup_none c rows d vs e g, search_match d rows vs 0 _, g)

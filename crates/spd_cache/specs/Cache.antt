@@ -1,11 +1,9 @@
 -- The cache of one direction (document 01, 'Cache and associations'). Assumes nothing: these are definitions.
-use Rattle.std.specs.Prelude.{ℕ, ◌+◌, ◌*◌, ◌%◌, min, max, List, ◌∷◌, ◌++◌, get_or, take, drop, replicate}
+use Rattle.std.specs.Prelude.{ℕ, ◌+◌, ◌*◌, ◌%◌, min, max, Option, Some, None, List, ◌∷◌, ◌++◌, get_or, take, drop, replicate}
 use Rattle.std.proofs.Math.Seq.{paste}
 use Rattle.selectors.specs.declared.Direction.{Direction}
 use Rattle.policy.specs.declared.Action.{Action}
 use Rattle.policy.specs.declared.Action.TheVariants.{Discard}
-use Rattle.policy.specs.declared.Found.{Found}
-use Rattle.policy.specs.declared.Found.TheVariants.{Row, Nothing}
 use Rattle.policy.specs.Policy.{PolicyRow, match_from}
 use Rattle.policy.specs.Words.{action_of_word, row_words, policy_rows}
 use Rattle.spd_cache.specs.declared.Cache.{Cache}
@@ -58,14 +56,14 @@ abbrev pub action_at : List ℕ → ℕ → Action
 action_at ws j = action_of_word (get_or ws (j * row_words + 1) 0)
 
 -- 'A miss without a row changes nothing.'
-abbrev pub missed : Cache → List ℕ → Found → Looked
-missed c rows (Row j) = answer (action_at rows j) (stored c rows j)
-missed c rows Nothing = answer Discard c
+abbrev pub missed : Cache → List ℕ → Option ℕ → Looked
+missed c rows (Some j) = answer (action_at rows j) (stored c rows j)
+missed c rows None = answer Discard c
 
 -- 'A hit changes nothing.'
-abbrev pub tried : Cache → List ℕ → Found → Found → Looked
-tried c rows (Row j) found = answer (action_at (in_use c) j) c
-tried c rows Nothing found = missed c rows found
+abbrev pub tried : Cache → List ℕ → Option ℕ → Option ℕ → Looked
+tried c rows (Some j) found = answer (action_at (in_use c) j) c
+tried c rows None found = missed c rows found
 
 -- A lookup: the slots first, and then the rows.
 unfoldable pub looked_up : Cache → List ℕ → Direction → List ℕ → Looked

@@ -4,13 +4,14 @@
 
 pub mod lent;
 
-ghost use Rattle.std.specs.Prelude.{◌≡◌, ◌+◌, ◌*◌, ◌≤◌, min, max, length};
+ghost use Rattle.std.specs.Prelude.{◌≡◌, ◌+◌, ◌*◌, ◌%◌, ◌≤◌, min, max, length};
 ghost use Rattle.selectors.specs.Value.{combination};
 ghost use Rattle.policy.specs.Policy.{match_from};
 ghost use Rattle.policy.specs.Words.{row_words, policy_rows};
-ghost use Rattle.spd_cache.specs.Cache.{slot_count, slots_words, empty_cache, used_words, action_at, put, stored, looked_up};
+ghost use Rattle.spd_cache.specs.declared.Cache.{Cache};
+ghost use Rattle.spd_cache.specs.Cache.{slot_count, slots_words, empty_cache, used_words, in_use, action_at, put, stored, missed, looked_up};
 
-use policy::{Action, Found, ROW_WORDS};
+use policy::{Action, ROW_WORDS};
 use selectors::{Direction, Selectors};
 
 pub const SLOTS: usize = 32;
@@ -34,25 +35,43 @@ pub struct Looked {
     pub cache: Cache,
 }
 
-fn capped(count: usize) -> usize
-    ensures { result ≡ min count slot_count }
-{
-    if count < SLOTS { count } else { SLOTS }
+// A cache that is looked up and changed where it lies: a value, or lent words.
+pub trait RowCache {
+    // The cache that this is.
+    ghost held: { Self → Cache };
+
+    fn lookup(&mut self, rows: &[u64], direction: Direction, selectors: Selectors) -> Action
+        ensures value { result ≡ (looked_up (held self.old) rows.now direction (combination selectors)).action }
+        ensures cache_after { held self.new ≡ (looked_up (held self.old) rows.now direction (combination selectors)).cache };
 }
 
-fn larger(a: usize, b: usize) -> usize
-    ensures { result ≡ max a b }
-{
-    if a < b { b } else { a }
+// What a lookup needs of a cache, wherever its slots lie.
+trait Slots {
+    ghost held: { Self → Cache };
+
+    // The words of the slots in use.
+    fn in_use(&self) -> &[u64]
+        ensures { result.now ≡ in_use (held self.now) };
+
+    // 'A miss that finds a row writes it to the slot whose turn it is, and the turn moves on, round after 32.'
+    fn store(&mut self, rows: &[u64], row: usize)
+        requires { row * row_words + row_words ≤ length rows.now }
+        ensures { held self.new ≡ stored (held self.old) rows.now row };
 }
 
-// The first match among the slots in use, whose words are the first of `words`.
-fn in_slots(words: &[u64], count: usize, direction: Direction, selectors: Selectors) -> Found
+// How many slots are in use, and the slot whose turn it is.
+#[derive(Clone, Copy)]
+struct Turn {
+    count: usize,
+    next: usize,
+}
+
+// Of the words of all slots those of the slots in use.
+fn used(words: &[u64], count: usize) -> &[u64]
     requires { slots_words ≤ length words.now }
-    ensures { result ≡ match_from 0 direction (policy_rows (used_words words.now count)) (combination selectors) }
+    ensures { result.now ≡ used_words words.now count }
 {
-    let used = capped(count) * ROW_WORDS;
-    policy::first_match(&words[..used], direction, selectors)
+    &words[..count.min(SLOTS) * ROW_WORDS]
 }
 
 // The action of the row at a place of `rows`.
@@ -60,7 +79,7 @@ fn action_at(rows: &[u64], row: usize) -> Action
     requires { row * row_words + row_words ≤ length rows.now }
     ensures { result ≡ action_at rows.now row }
 {
-    policy::action_of(rows[row * ROW_WORDS + 1])
+    Action::from(rows[row * ROW_WORDS + 1])
 }
 
 // Writes the row at place `row` of `rows` into a slot.
@@ -70,10 +89,76 @@ fn put_row(words: &mut [u64], slot: usize, rows: &[u64], row: usize)
 {
     let to = slot * ROW_WORDS;
     let from = row * ROW_WORDS;
-    let mut i: usize = 0;
-    while i < ROW_WORDS {
-        words[to + i] = rows[from + i];
-        i += 1;
+    words[to..to + ROW_WORDS].copy_from_slice(&rows[from..from + ROW_WORDS]);
+}
+
+// A row written to the slot whose turn it is, and the turn after it.
+fn store_row(words: &mut [u64], turn: Turn, rows: &[u64], row: usize) -> Turn
+    requires { (slots_words ≤ length words.old) × (row * row_words + row_words ≤ length rows.now) }
+    ensures words_after { words.new ≡ put words.old (turn.next % slot_count) rows.now row }
+    ensures count { result.count ≡ max (min turn.count slot_count) (turn.next % slot_count + 1) }
+    ensures next { result.next ≡ (turn.next % slot_count + 1) % slot_count }
+{
+    let slot = turn.next % SLOTS;
+    put_row(words, slot, rows, row);
+    Turn {
+        count: turn.count.min(SLOTS).max(slot + 1),
+        next: (slot + 1) % SLOTS,
+    }
+}
+
+// A miss: the search of the rows.
+fn miss<S: Slots>(cache: &mut S, rows: &[u64], direction: Direction, selectors: Selectors) -> Action
+    ensures value { result ≡ (missed (S.held cache.old) rows.now (match_from 0 direction (policy_rows rows.now) (combination selectors))).action }
+    ensures cache_after { S.held cache.new ≡ (missed (S.held cache.old) rows.now (match_from 0 direction (policy_rows rows.now) (combination selectors))).cache }
+{
+    let Some(row) = policy::first_match(rows, direction, selectors) else {
+        return Action::Discard;
+    };
+    cache.store(rows, row);
+    action_at(rows, row)
+}
+
+// The slots first, and then the rows.
+fn look_up<S: Slots>(
+    cache: &mut S,
+    rows: &[u64],
+    direction: Direction,
+    selectors: Selectors,
+) -> Action
+    ensures value { result ≡ (looked_up (S.held cache.old) rows.now direction (combination selectors)).action }
+    ensures cache_after { S.held cache.new ≡ (looked_up (S.held cache.old) rows.now direction (combination selectors)).cache }
+{
+    let slots = cache.in_use();
+    match policy::first_match(slots, direction, selectors) {
+        Some(hit) => action_at(slots, hit),
+        None => miss(cache, rows, direction, selectors),
+    }
+}
+
+impl Slots for Cache {
+    ghost held = { λ c. c };
+
+    fn in_use(&self) -> &[u64] {
+        used(&self.words, self.count)
+    }
+
+    fn store(&mut self, rows: &[u64], row: usize) {
+        let turn = Turn {
+            count: self.count,
+            next: self.next,
+        };
+        let after = store_row(&mut self.words, turn, rows, row);
+        self.count = after.count;
+        self.next = after.next;
+    }
+}
+
+impl RowCache for Cache {
+    ghost held = { λ c. c };
+
+    fn lookup(&mut self, rows: &[u64], direction: Direction, selectors: Selectors) -> Action {
+        look_up(self, rows, direction, selectors)
     }
 }
 
@@ -88,42 +173,11 @@ impl Cache {
         }
     }
 
-    fn store(self, rows: &[u64], row: usize) -> Cache
-        requires { row * row_words + row_words ≤ length rows.now }
-        ensures { result ≡ stored self rows.now row }
-    {
-        let turn = self.next % SLOTS;
-        let after = turn + 1;
-        let count = capped(self.count);
-        let mut words = self.words;
-        put_row(&mut words, turn, rows, row);
-        Cache {
-            words,
-            count: larger(count, after),
-            next: after % SLOTS,
-        }
-    }
-
     pub fn lookup(self, rows: &[u64], direction: Direction, selectors: Selectors) -> Looked
         ensures { result ≡ looked_up self rows.now direction (combination selectors) }
     {
-        let slot = in_slots(&self.words, self.count, direction, selectors);
-        if let Found::Row(hit) = slot {
-            return Looked {
-                action: action_at(&self.words, hit),
-                cache: self,
-            };
-        }
-        let found = policy::first_match(rows, direction, selectors);
-        let Found::Row(row) = found else {
-            return Looked {
-                action: Action::Discard,
-                cache: self,
-            };
-        };
-        Looked {
-            action: action_at(rows, row),
-            cache: self.store(rows, row),
-        }
+        let mut cache = self;
+        let action = look_up(&mut cache, rows, direction, selectors);
+        Looked { action, cache }
     }
 }

@@ -361,7 +361,7 @@ pub extern "C" fn specksonne_is_live(table: &[u64; TABLE_WORDS], protocol: u64, 
     sad::is_live(table, protocol, spi_in)
 }
 
-// A packet going out (`gateway_in_place::outbound`).
+// A packet going out (`gateway::outbound`).
 #[unsafe(no_mangle)]
 pub extern "C" fn specksonne_outbound(
     policy: &[u64; SPD_WORDS],
@@ -374,12 +374,12 @@ pub extern "C" fn specksonne_outbound(
     ensures carries_after { carries.new ≡ carried (outbound_cached (cache_from cache.old) (rows_of row_limit policy.now Direction.Out) (pairs table.now) bytes.now).verdict }
     ensures cache_after { cache.new ≡ cache_words (outbound_cached (cache_from cache.old) (rows_of row_limit policy.now Direction.Out) (pairs table.now) bytes.now).cache }
 {
-    let going_out = gateway_in_place::outbound(policy, table, cache, bytes);
+    let going_out = gateway::outbound(policy, table, cache, bytes);
     *carries = answer_numbers::verdict_carries(going_out);
     answer_numbers::verdict_number(going_out)
 }
 
-// A packet coming in from outside (`gateway_in_place::inbound`).
+// A packet coming in from outside (`gateway::inbound`).
 #[unsafe(no_mangle)]
 pub extern "C" fn specksonne_inbound(
     policy: &[u64; SPD_WORDS],
@@ -392,7 +392,7 @@ pub extern "C" fn specksonne_inbound(
     ensures carries_after { carries.new ≡ carried (inbound_cached (cache_from cache.old) (rows_of row_limit policy.now Direction.In) (address_of policy.now) (pairs table.now) bytes.now).verdict }
     ensures cache_after { cache.new ≡ cache_words (inbound_cached (cache_from cache.old) (rows_of row_limit policy.now Direction.In) (address_of policy.now) (pairs table.now) bytes.now).cache }
 {
-    let coming_in = gateway_in_place::inbound(policy, table, cache, bytes);
+    let coming_in = gateway::inbound(policy, table, cache, bytes);
     *carries = answer_numbers::verdict_carries(coming_in);
     answer_numbers::verdict_number(coming_in)
 }

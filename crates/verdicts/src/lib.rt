@@ -7,10 +7,10 @@ ghost use Rattle.sad.specs.Pairs.{pairs};
 ghost use Rattle.verdicts.specs.Calls.{outbound_action, inbound_action};
 
 use policy::Action;
-use sad::{PairFound, TABLE_WORDS};
+use sad::TABLE_WORDS;
 use selectors::Selectors;
 
-#[derive(Clone, Copy)]
+#[derive(Clone, Copy, Debug, PartialEq, Eq)]
 pub enum Verdict {
     // 0: pass in clear.
     Pass,
@@ -45,10 +45,9 @@ pub enum Verdict {
 fn protect(table: &[u64; TABLE_WORDS], selectors: Selectors, number: u64) -> Verdict
     ensures { result ≡ outbound_action (pairs table.now) (combination selectors) (Action.Protect number) }
 {
-    let found = sad::pair_for(table, number, selectors);
-    match found {
-        PairFound::Found(protocol, spi) => Verdict::Protect(number, protocol, spi),
-        PairFound::Nothing => Verdict::Wanted(number),
+    match sad::pair_for(table, number, selectors) {
+        Some(sa) => Verdict::Protect(number, sa.protocol, sa.spi),
+        None => Verdict::Wanted(number),
     }
 }
 

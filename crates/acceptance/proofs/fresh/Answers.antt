@@ -5,4 +5,4 @@ use Rattle.acceptance.proofs.SpdLaws.{empty-words}
 use Rattle.acceptance.proofs.fresh.Goals as goal
 
 pub returns : goal.returns
-returns c = (c.empty_caches.ensures, c.write.ensures ∙ empty-words row_limit c.args.address)
+returns c = (c.empty.ensures, c.write.ensures ∙ empty-words row_limit c.args.address)

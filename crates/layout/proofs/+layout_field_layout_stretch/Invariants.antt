@@ -7,16 +7,18 @@ use Rattle.layout.specs.ProgressLaws.{Progress}
 use Rattle.layout.proofs.+layout_field_layout_stretch.Given as goal
 
 abbrev pub decreases-layout_field : goal.decreases-layout_field
-decreases-layout_field l = 11 - 2 * l.branch.field
+decreases-layout_field l = 11 - 2 * l.branch.now.field
 
 abbrev pub decreases-layout_stretch : goal.decreases-layout_stretch
-decreases-layout_stretch l = 10 - 2 * l.branch.field
+decreases-layout_stretch l = 10 - 2 * l.branch.now.field
 
-abbrev pub invariant-layout_field-loop-task : goal.invariant-layout_field-loop-task
-invariant-layout_field-loop-task l =
-    (length l.room ≡ length l.fn.room)
-    × ((l.kept.next ≤ l.task.limit)
-    × ((number l.from ≤ number l.top) × Progress l.first l.second l.task (values_from l.branch.point.words 0 l.branch.field) l.branch.field l.room l.kept (number l.from)))
+abbrev pub invariant-layout_field-loop-laid : goal.invariant-layout_field-loop-laid
+invariant-layout_field-loop-laid l = record {
+  whole : length l.room ≡ length l.fn.room;
+  few : l.kept.next ≤ l.limit;
+  in_range : number l.from ≤ number l.top;
+  progress : Progress l.branch.first.now l.branch.second.now l.branch.task.now (values_from l.branch.point.words 0 l.branch.field) l.branch.field l.room l.kept (number l.from);
+}
 
-abbrev pub decreases-layout_field-loop-task : goal.decreases-layout_field-loop-task
-decreases-layout_field-loop-task l = number l.top - number l.from
+abbrev pub decreases-layout_field-loop-laid : goal.decreases-layout_field-loop-laid
+decreases-layout_field-loop-laid l = number l.top - number l.from

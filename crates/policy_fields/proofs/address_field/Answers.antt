@@ -1,39 +1,40 @@
 -- `policy_fields::address_field` meets its contract: by the definition's tests, in its order. Assumes nothing.
-use mathlib.Core.Path.{◌≡◌, sym, ◌∙◌}
-use mathlib.Core.Bool.{false}
-use Rattle.policy_text.specs.Bytes.{dash, slash, are_same_bytes, has}
-use Rattle.policy_text.proofs.BytesLaws.{has_there, has_not}
-use Rattle.policy_text.specs.Format.{any}
-use Rattle.policy_text.specs.Edition1.{address_field}
-use Rattle.policy_text.proofs.FormatLaws.{address_at_most}
+use Rattle.std.proofs.Common.{◌≡◌, Some, None, sym, ◌∙◌}
+use Rattle.policy_text.specs.Bytes.{slash, before, after}
+use Rattle.policy_text.specs.Edition1.{address, address_field}
+use Rattle.policy_text.proofs.BytesLaws.{has_is}
+use Rattle.policy_fields.specs.AnswerLaws.{unlike_any}
 use Rattle.policy_fields.proofs.address_field.Goals as goal
 
-pub returns-then-same : goal.returns-then-same
+pub returns-in_err-address : goal.returns-in_err-address
 unfolding address_field
-returns-then-same c = rw (sym c.same.ensures ∙ c.if-same.true)
+returns-in_err-address c =
+    let s = c.args.s.now in
+    let h = has_is slash s c.contains.ensures.value c.if-contains.true in
+    let low : address (before slash s) ≡ None = rw c.before-then-contains.ensures at (sym c.address.ensures.value ∙ c.in_err-address.was) in
+    rw (unlike_any s h, h, low) c.from_residual.ensures
 
-pub masked-requires : goal.masked-requires
-masked-requires c = (rw c.address.ensures (address_at_most _), rw c.address-then-find-s.ensures (address_at_most _))
-
-pub returns-then-find-s : goal.returns-then-find-s
+pub returns-in_err-address-2 : goal.returns-in_err-address-2
 unfolding address_field
-returns-then-find-s c =
-    let not-any : are_same_bytes c.args.s.now any ≡ false = sym c.same.ensures ∙ c.if-same.false in
-    let h = has_there slash _ _ c.find.ensures.0 c.if-find-s.true in
-    rw (not-any, h, ← c.before-then-find-s.ensures, ← c.address.ensures, ← c.after.ensures, ← c.address-then-find-s.ensures) c.masked.ensures
+returns-in_err-address-2 c =
+    let s = c.args.s.now in
+    let h = has_is slash s c.contains.ensures.value c.if-contains.true in
+    let low : address (before slash s) ≡ Some c.in_ok-address.field-0 = rw c.before-then-contains.ensures at (sym c.address.ensures.value ∙ c.in_ok-address.was) in
+    let mask : address (after slash s) ≡ None = rw c.after.ensures at (sym c.address-then-contains.ensures.value ∙ c.in_err-address-2.was) in
+    rw (unlike_any s h, h, low, mask) c.from_residual-in_err-address-2.ensures
 
-pub returns-then-find-s-2 : goal.returns-then-find-s-2
+pub returns-then-contains : goal.returns-then-contains
 unfolding address_field
-returns-then-find-s-2 c =
-    let not-any : are_same_bytes c.args.s.now any ≡ false = sym c.same.ensures ∙ c.if-same.false in
-    let no_slash : has slash c.args.s.now ≡ false = has_not slash _ _ c.find.ensures.0 c.if-find-s.false in
-    let d = has_there dash _ _ c.find-2.ensures.0 c.if-find-s-2.true in
-    rw (not-any, no_slash, d, ← c.before-then-find-s-2.ensures, ← c.address-then-find-s-2.ensures, ← c.after-then-find-s-2.ensures, ← c.address-then-find-s-2-2.ensures) c.address_span.ensures
+returns-then-contains c =
+    let s = c.args.s.now in
+    let h = has_is slash s c.contains.ensures.value c.if-contains.true in
+    let low : address (before slash s) ≡ Some c.in_ok-address.field-0 = rw c.before-then-contains.ensures at (sym c.address.ensures.value ∙ c.in_ok-address.was) in
+    let mask : address (after slash s) ≡ Some c.in_ok-address-2.field-0 = rw c.after.ensures at (sym c.address-then-contains.ensures.value ∙ c.in_ok-address-2.was) in
+    rw (unlike_any s h, h, low, mask) c.masked.ensures
 
 pub returns : goal.returns
 unfolding address_field
 returns c =
-    let not-any : are_same_bytes c.args.s.now any ≡ false = sym c.same.ensures ∙ c.if-same.false in
-    let no_slash : has slash c.args.s.now ≡ false = has_not slash _ _ c.find.ensures.0 c.if-find-s.false in
-    let d = has_not dash _ _ c.find-2.ensures.0 c.if-find-s-2.false in
-    rw (not-any, no_slash, d) (rw (c.address-2.ensures, c.address-3.ensures) at c.address_span-2.ensures)
+    let s = c.args.s.now in
+    let h = has_is slash s c.contains.ensures.value c.if-contains.false in
+    c.read.ensures ∙ rw h

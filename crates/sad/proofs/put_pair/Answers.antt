@@ -6,9 +6,6 @@ use mathlib.Core.Path.{◌≡◌, ◌∙◌}
 use Rattle.sad.specs.Pairs.{pair_words}
 use Rattle.sad.proofs.put_pair.Goals as goal
 
-pub overflow_add-at-4 : goal.overflow_add-at-4
-overflow_add-at-4 c = let g = c.well_formed.0 in omega (arith, c.requires)
-
 pub returns : goal.returns
 unfolding pair_words
 returns c =

@@ -3,6 +3,7 @@
 use native.Mathlib.Omega.{arith}
 use mathlib.Core.Path.{◌≡◌}
 use mathlib.Core.Bool.{false≢true}
+use lib.ListN.{length}
 use borrow.Author.Tests.{not-false}
 use borrow.Author.Count.{below_none, below_more}
 use borrow.Author.Rules.{rules}
@@ -25,4 +26,4 @@ loop-row-preserved c =
     )
 
 pub returns : goal.returns
-returns c = let e : c.loop-row.row ≡ c.args.count = omega arith in λ _. sides_agree _ _ (rw e at c.loop-row.invariant.1)
+returns c = let e : c.loop-row.row ≡ length c.args.entries.now = omega arith in λ _. sides_agree _ _ (rw e at c.loop-row.invariant.1)

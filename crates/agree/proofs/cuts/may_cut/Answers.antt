@@ -5,8 +5,8 @@ use borrow.Author.Tests.{eqb-true, not-false}
 use Rattle.agree.proofs.cuts.may_cut.Goals as goal
 
 pub returns-then-acts : goal.returns-then-acts
-returns-then-acts c = λ e. absurd (false≢true (sym e))
+returns-then-acts c = λ e. absurd (false≢true (sym e ∙ c.if-acts.true))
 
-pub returns : goal.returns
-returns c =
+pub returns-else-acts : goal.returns-else-acts
+returns-else-acts c =
     λ e. (eqb-true _ _ (not-false _ (sym c.acts.ensures ∙ c.if-acts.false)), c.may_meet.ensures e)

@@ -2,8 +2,8 @@
 use Rattle.agree.specs.SidesLaws.{common_entry, common_all}
 use Rattle.agree.proofs.entries.entry_common.Goals as goal
 
-pub returns-then-k-count : goal.returns-then-k-count
-returns-then-k-count c = common_entry _ _ _ _ c.if-k-count.true c.common.ensures
+pub returns-then-k-entries : goal.returns-then-k-entries
+returns-then-k-entries c = common_entry _ _ _ _ c.if-k-entries.true c.common.ensures
 
 pub returns : goal.returns
 returns c = common_all _ _ _

@@ -1,12 +1,7 @@
--- `agree::merging::there` meets its contract. The loop's invariant: the first i places are those of rows. The measure is the count of the others.
--- Assumes nothing.
-use Prim.Native.Nat.{ℕ, ◌≤◌, ◌<◌, ◌-◌, ◌/◌}
-use lib.ListN.{length, get_or}
+-- `agree::merging::there` meets its contract. The loop's invariant: the places so far are those of rows. Assumes nothing.
+use Rattle.std.proofs.Common.{ℕ, ◌<◌, ◌/◌, length, get_or}
 use Rattle.policy.specs.Words.{row_words}
 use Rattle.agree.proofs.merging.there.Given as goal
 
-abbrev pub invariant-loop-i : goal.invariant-loop-i
-invariant-loop-i l = (l.i ≤ l.total) × ((k : ℕ) → k < l.i → get_or l.list k 0 < length l.rows / row_words)
-
-abbrev pub decreases-loop-i : goal.decreases-loop-i
-decreases-loop-i l = l.total - l.i
+abbrev pub invariant-loop-row : goal.invariant-loop-row
+invariant-loop-row l = (k : ℕ) → k < l.row-index → get_or l.list k 0 < length l.rows / row_words

@@ -1,5 +1,4 @@
--- `layout::intervals::end_of_all` meets its contract. The loop's invariant: the rows before `row` treat all values to `end` alike. The measure is the count
--- of the others. Assumes nothing.
+-- `layout::intervals::end_of_all` meets its contract. The loop's invariant: the rows before `row` treat all values to `end` alike. Assumes nothing.
 use Prim.Native.Nat.{◌/◌}
 use native.Mathlib.Omega.{arith}
 use mathlib.Core.Path.{◌≡◌}
@@ -10,16 +9,16 @@ use borrow.Author.Rules.{rules}
 use Rattle.layout.proofs.intervals.end_of_all.Goals as goal
 
 pub loop-row-init : goal.loop-row-init
-loop-row-init c = (search rules, among_start _ _ _ _ _ _ c.requires.1)
+loop-row-init c = among_start _ _ _ _ _ _ c.requires.1
 
 pub row_end-end-requires : goal.row_end-end-requires
-row_end-end-requires c = record { field_lt_field_count = (search rules, search rules); from_bound = c.loop-row.invariant.1.reaches }
+row_end-end-requires c = record { field_lt_field_count = (search rules, search rules); from_bound = c.loop-row.invariant.reaches }
 
 pub loop-row-preserved : goal.loop-row-preserved
-loop-row-preserved c = (search rules, ends_more _ _ _ _ _ _ _ _ _ c.loop-row.invariant.1 c.row_end-end.ensures)
+loop-row-preserved c = ends_more _ _ _ _ _ _ _ _ _ c.loop-row.invariant c.row_end-end.ensures
 
 pub returns : goal.returns
 returns c =
     let l = c.loop-row in
     let e : l.row ≡ length c.args.rows.now / row_words = omega arith in
-    rw e at l.invariant.1
+    rw e at l.invariant

@@ -12,34 +12,19 @@ use Rattle.layout.specs.ListsLaws.{lists_within, lists-found, lists_none}
 use borrow.Author.Rules.{rules}
 use Rattle.layout.proofs.lists.action_at.Goals as goal
 
-pub overflow_mul-result : goal.overflow_mul-result
-overflow_mul-result c =
-    let listed-row : c.wide.result < length c.args.rows.now / row_words = omega (arith, c.wide.ensures, (lists_within _ _ _ _ _ _ c.requires).places 0 c.if-count-gt0.true) in
+pub bounds-rows-from : goal.bounds-rows-from
+bounds-rows-from c =
+    let listed-row : c.from.result < length c.args.rows.now / row_words = omega (arith, c.from.ensures, (lists_within _ _ _ _ _ c.requires).places 0 (omega arith)) in
     let h = listed-row in search rules
 
-pub overflow_add-result : goal.overflow_add-result
-overflow_add-result c =
-    let listed-row : c.wide.result < length c.args.rows.now / row_words = omega (arith, c.wide.ensures, (lists_within _ _ _ _ _ _ c.requires).places 0 c.if-count-gt0.true) in
-    let h = listed-row in search rules
-
-pub offset_bounds-rows-wide : goal.offset_bounds-rows-wide
-offset_bounds-rows-wide c =
-    let listed-row : c.wide.result < length c.args.rows.now / row_words = omega (arith, c.wide.ensures, (lists_within _ _ _ _ _ _ c.requires).places 0 c.if-count-gt0.true) in
-    let h = listed-row in search rules
-
-pub bounds-rows-wide : goal.bounds-rows-wide
-bounds-rows-wide c =
-    let listed-row : c.wide.result < length c.args.rows.now / row_words = omega (arith, c.wide.ensures, (lists_within _ _ _ _ _ _ c.requires).places 0 c.if-count-gt0.true) in
-    let h = listed-row in search rules
-
-pub returns-then-count-gt0 : goal.returns-then-count-gt0
-returns-then-count-gt0 c = rw c.wide.ensures (lists-found _ _ _ _ _ c.requires c.if-count-gt0.true)
+pub returns-in-len1-up : goal.returns-in-len1-up
+returns-in-len1-up c = rw c.from.ensures (lists-found _ _ _ _ c.requires (omega arith))
 
 pub returns-then-rows-le-LIMIT : goal.returns-then-rows-le-LIMIT
-returns-then-rows-le-LIMIT c = lists_none _ _ _ _ _ c.requires (omega (arith, c.if-count-gt0.false)) c.if-rows-le-LIMIT.true
+returns-then-rows-le-LIMIT c = lists_none _ _ _ _ c.requires (omega arith) c.if-rows-le-LIMIT.true
 
-pub returns-in_default : goal.returns-in_default
-returns-in_default c = action_missing c.args.direction c.args.rows.now _ _ _ (point_values _ _ c.selectors_of.ensures) c.first_match-found.ensures c.in_default.is
+pub returns-in_default-found : goal.returns-in_default-found
+returns-in_default-found c = action_missing c.args.direction c.args.rows.now _ _ _ (point_values _ _ c.selectors_of.ensures) c.first_match-found.ensures c.in_default-found.is
 
 pub overflow_mul-result-2 : goal.overflow_mul-result-2
 overflow_mul-result-2 c =

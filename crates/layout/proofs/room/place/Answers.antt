@@ -11,5 +11,5 @@ returns-then-same_block c = inl (record { kept = refl; words = refl; same = c.sa
 
 pub returns : goal.returns
 returns c = let a = c.args in
-    inr (begun a.field _ a.kept a.count a.from _ a.room.now _ (omega arith) c.requires.1.0 c.previous.ensures
+    inr (begun a.field _ a.kept a.count a.from _ a.room.now _ _ (omega arith) c.requires.1.0 refl refl refl c.previous.ensures
     (λ e. false≢true (sym c.if-same_block.false ∙ c.same_block.ensures.1 e)) c.stamp.ensures)

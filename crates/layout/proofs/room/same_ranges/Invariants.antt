@@ -1,6 +1,5 @@
--- `layout::room::same_ranges` meets its contract. The loop's invariant: the ranges are the same if those from f on are.
--- The measure is the count of those. Assumes nothing.
-use Prim.Native.Nat.{◌≤◌, ◌-◌}
+-- `layout::room::same_ranges` meets its contract. The loop's invariant: the ranges are the same if those from f on are. Assumes nothing.
+use Prim.Native.Nat.{◌-◌}
 use mathlib.Core.Path.{◌≡◌}
 use mathlib.Core.Logic.{◌↔◌}
 use Rattle.selectors.specs.Words.{field_count}
@@ -9,8 +8,4 @@ use Rattle.layout.proofs.room.same_ranges.Given as goal
 
 abbrev pub invariant-loop-f : goal.invariant-loop-f
 invariant-loop-f l =
-    (l.f ≤ field_count)
-    × ((row_ranges l.room l.a l.field (field_count - l.field) ≡ row_ranges l.room l.b l.field (field_count - l.field)) ↔ (row_ranges l.room l.a l.f (field_count - l.f) ≡ row_ranges l.room l.b l.f (field_count - l.f)))
-
-abbrev pub decreases-loop-f : goal.decreases-loop-f
-decreases-loop-f l = field_count - l.f
+    (row_ranges l.room l.a l.field (field_count - l.field) ≡ row_ranges l.room l.b l.field (field_count - l.field)) ↔ (row_ranges l.room l.a l.f (field_count - l.f) ≡ row_ranges l.room l.b l.f (field_count - l.f))

@@ -1,5 +1,4 @@
--- `layout::room::stamp` meets its contract. The loop's invariant: the rows from a to `row` are stamped.
--- The measure is the count of the others. Assumes nothing.
+-- `layout::room::stamp` meets its contract. The loop's invariant: the rows from a to `row` are stamped. Assumes nothing.
 use native.Mathlib.Omega.{arith}
 use mathlib.Core.Path.{◌≡◌}
 use borrow.Author.Rules.{rules}
@@ -9,11 +8,10 @@ use Rattle.layout.proofs.room.stamp.Goals as goal
 
 pub loop-row-init : goal.loop-row-init
 loop-row-init c = let a = c.args in
-    (search rules, (search rules, (search rules, stamped_none a.field _ a.a (number a.low) (number a.high) a.room.now)))
+    (search rules, stamped_none a.field _ a.a (number a.low) (number a.high) a.room.now)
 
 pub loop-row-preserved : goal.loop-row-preserved
-loop-row-preserved c = let i = c.loop-row.invariant in
-    (search rules, (search rules, (search rules, stamped_more _ _ _ _ _ _ _ _ _ (omega arith) i.1.0 i.1.1.1 c.stamp_row.ensures)))
+loop-row-preserved c = (search rules, stamped_more _ _ _ _ _ _ _ _ _ (omega arith) (omega arith) c.loop-row.invariant.1 c.stamp_row.ensures)
 
 pub returns : goal.returns
-returns c = let e : c.loop-row.row ≡ c.args.b = omega arith in rw e at c.loop-row.invariant.1.1.1
+returns c = let e : c.loop-row.row ≡ c.args.b = omega arith in rw e at c.loop-row.invariant.1

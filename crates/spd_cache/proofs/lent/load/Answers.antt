@@ -4,4 +4,4 @@ use Rattle.spd_cache.proofs.lent.load.Goals as goal
 
 pub returns : goal.returns
 unfolding cache_from
-returns c = rw c.slots.ensures
+returns c = rw c.copy_from_slice.ensures.after

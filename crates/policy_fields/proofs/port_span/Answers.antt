@@ -1,8 +1,0 @@
--- `policy_fields::port_span` meets its contract: the constructor makes the range of the definition. Assumes nothing.
-use mathlib.Core.Path.{◌∙◌}
-use Rattle.policy_fields.specs.AnswerLaws.{new_port}
-use Rattle.policy_fields.proofs.port_span.Goals as goal
-
-pub returns : goal.returns
-returns c =
-    rw (c.in-Is.is, c.in-Is-high.is) (c.new.ensures ∙ rw (c.small.ensures, c.small-2.ensures) (new_port _ _))

@@ -1,0 +1,5 @@
+-- `policy_print::Writer::put_decimal`: the measure is the number. Assumes nothing.
+use Rattle.policy_print.proofs.Writer.+put_decimal.Given as goal
+
+abbrev pub decreases-put_decimal : goal.decreases-put_decimal
+decreases-put_decimal l = l.n
