@@ -41,8 +41,12 @@ fn main(rt: HostRuntime) {
     let n = rt.arg(1, &mut word).unwrap_or(0);
     match direction_asked(&word[..n]) {
         Some(direction) if !is_given(&rt, 3) => from_argument(&rt, direction),
-        _ => say(&rt, "usage: normalise out|in [FILE]"),
+        _ => usage(&rt),
     }
+}
+
+fn usage(rt: &impl Eprint) {
+    let _ = eprintln!(rt; "usage: normalise out|in [FILE]");
 }
 
 // Whether there is an argument of that number, the program's name being number 0.
@@ -83,7 +87,7 @@ fn from_name(rt: &HostRuntime, name: &[u8], direction: Direction) {
     match str::from_utf8(name) {
         Ok("-") => from_standard_input(rt, direction),
         Ok(path) => from_file(rt, path, direction),
-        Err(_) => say(rt, "normalise: FILE: name is not UTF-8"),
+        Err(_) => say(rt, "FILE: name is not UTF-8"),
     }
 }
 
@@ -102,7 +106,7 @@ fn from_input(rt: &HostRuntime, source: &mut impl Read, name: &str, direction: D
         Ok(()) if input.count <= MOST_READ => {
             print_normal_form(rt, &room[..input.count], direction);
         }
-        Ok(()) => say(rt, "normalise: policy file longer than 131072 bytes"),
+        Ok(()) => say(rt, "policy file longer than 131072 bytes"),
         Err(error) => fail(rt, name, error),
     }
 }
@@ -139,7 +143,7 @@ fn refuse(rt: &impl Eprint, answer: Normalised, policy: &[u8], direction: Direct
     requires { answer ≡ normalised row_limit direction form_bytes (parse_policy row_limit policy.now) }
 {
     let number = answer_numbers::normalised_number(answer);
-    let _ = eprintln!(rt; "normalise: {number}: {}", Meaning(answer));
+    say(rt, format_args!("{number}: {}", Meaning(answer)));
 }
 
 // Document 01's words for an answer, with what it carries.
@@ -165,10 +169,10 @@ impl Display for Meaning {
 
 // Says what failed, and the system's reason.
 fn fail(rt: &impl Eprint, what: &str, error: io::Error) {
-    let _ = eprintln!(rt; "normalise: {what}: {}", Reason(error));
+    say(rt, format_args!("{what}: {}", Reason(error)));
 }
 
 // A line on standard error. Where it cannot be written, nothing more is said.
-fn say(rt: &impl Eprint, words: &str) {
-    let _ = eprintln!(rt; "{words}");
+fn say(rt: &impl Eprint, words: impl Display + Drop) {
+    let _ = eprintln!(rt; "normalise: {words}");
 }
