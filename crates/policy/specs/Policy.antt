@@ -1,5 +1,5 @@
 -- Policies: rows, the ordered search, and the normal form for one direction (document 01; docs/RULES.md). Assumes nothing: these are definitions.
-use Rattle.std.specs.Prelude.{ℕ, suc, Bool, true, false, cond, ◌&&◌, List, [], ◌∷◌, map}
+use Rattle.std.specs.Prelude.{ℕ, suc, Option, Some, None, Bool, true, false, cond, ◌&&◌, List, [], ◌∷◌, map}
 use Rattle.selectors.specs.Range.{Range, holds}
 use Rattle.selectors.specs.declared.Direction.{Direction}
 use Rattle.selectors.specs.declared.Direction.TheVariants.{Out, In}
@@ -7,8 +7,6 @@ use Rattle.normal_form.specs.Search.{Row as LeafRow}
 use Rattle.normal_form.specs.NormalForm.{normal_form}
 use Rattle.policy.specs.declared.Action.{Action}
 use Rattle.policy.specs.declared.Action.TheVariants.{Discard}
-use Rattle.policy.specs.declared.Found.{Found}
-use Rattle.policy.specs.declared.Found.TheVariants.{Row, Nothing}
 use Rattle.policy.specs.declared.RowDirection.{RowDirection}
 use Rattle.policy.specs.declared.RowDirection.TheVariants.{Only, Both}
 use Rattle.policy.specs.ActionLaws.{action-≟}
@@ -38,9 +36,9 @@ ordered_search d [] vs = Discard
 ordered_search d (r ∷ rs) vs = cond (matches d r vs) r.action (ordered_search d rs vs)
 
 -- The place of that row, counted from n, where there is one.
-unfoldable pub match_from : ℕ → Direction → List PolicyRow → List ℕ → Found
-match_from n d [] vs = Nothing
-match_from n d (r ∷ rs) vs = cond (matches d r vs) (Row n) (match_from (suc n) d rs vs)
+unfoldable pub match_from : ℕ → Direction → List PolicyRow → List ℕ → Option ℕ
+match_from n d [] vs = None
+match_from n d (r ∷ rs) vs = cond (matches d r vs) (Some n) (match_from (suc n) d rs vs)
 
 -- The normal form of a policy for one direction, over fields of these sizes: discard makes no row.
 abbrev pub policy_normal_form : List ℕ → Direction → List PolicyRow → List (LeafRow Action)

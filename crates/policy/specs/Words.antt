@@ -4,7 +4,6 @@ use Rattle.std.specs.Prelude.{ℕ, zero, suc, ◌+◌, ◌-◌, ◌*◌, ◌/◌
 use Rattle.selectors.specs.Range.{Range}
 use Rattle.selectors.specs.Ranges.{address_range, protocol_range, port_range}
 use Rattle.selectors.specs.Words.{ranges_words, ranges_at, words_of_ranges}
-use Rattle.selectors.specs.declared.Ranges.{Ranges}
 use Rattle.selectors.specs.declared.Direction.TheVariants.{Out, In}
 use Rattle.policy.specs.declared.Action.{Action}
 use Rattle.policy.specs.declared.Action.TheVariants.{Discard, Bypass, Protect}
@@ -85,16 +84,6 @@ ranges_of r =
 
 abbrev pub row_of : Row → PolicyRow
 row_of r = record { direction = direction_of r.direction; action = action_of_word r.action; ranges = ranges_of r }
-
-abbrev pub ends_of_record : Row → Ranges
-ends_of_record r =
-    record {
-      local = record { low = r.local.low; high = r.local.high };
-      remote = record { low = r.remote.low; high = r.remote.high };
-      protocol = record { low = r.protocol.low; high = r.protocol.high };
-      local_port = record { low = r.local_port.low; high = r.local_port.high };
-      remote_port = record { low = r.remote_port.low; high = r.remote_port.high };
-    }
 
 abbrev pub words_of_record : Row → List ℕ
 words_of_record r = words_with r.direction r.action (ranges_of r)

@@ -5,17 +5,18 @@ ghost use Rattle.std.specs.Prelude.{◌≡◌, ◌+◌, ◌≤◌, length};
 ghost use Rattle.std.proofs.lemmas.List.Edits.{sets};
 ghost use Rattle.selectors.specs.Value.{combination};
 ghost use Rattle.selectors.specs.Words.{values_of};
+ghost use Rattle.selectors.specs.Ranges.{five_ranges};
 ghost use Rattle.policy.specs.Policy.{applies_to, matches, match_from, ordered_search};
-ghost use Rattle.policy.specs.Words.{direction_of, action_of_word, row_words, row_at, policy_rows, ends_of_record, words_of_record};
+ghost use Rattle.policy.specs.Words.{direction_of, direction_word, action_of_word, action_word, row_words, row_at, policy_rows, ranges_of, words_of_record};
 
 use selectors::words::{
     FIELDS, RANGES_WORDS, SELECTOR_WORDS, put_ranges, put_word, ranges_hold, selector_words,
 };
 use selectors::{
-    AddressRange, Direction, Ends, PortRange, ProtocolRange, Ranges, Selectors, Value,
+    AddressRange, Direction, FieldRange, Fields, PortRange, ProtocolRange, Ranges, Selectors,
 };
 
-#[derive(Clone, Copy)]
+#[derive(Clone, Copy, Debug, PartialEq, Eq)]
 pub enum Action {
     Discard,
     Bypass,
@@ -23,8 +24,8 @@ pub enum Action {
     Protect(u64),
 }
 
-// The direction of a row: one direction only, or both.
-#[derive(Clone, Copy)]
+// The direction of a row: one direction only, or both. (Stays beside `Option<Direction>`: its `None` would have to mean both.)
+#[derive(Clone, Copy, Debug, PartialEq, Eq)]
 pub enum RowDirection {
     Only(Direction),
     Both,
@@ -32,7 +33,7 @@ pub enum RowDirection {
 
 // A row as a record: its words, each with the meaning that it has in a flat list of words.
 #[repr(C)]
-#[derive(Clone, Copy)]
+#[derive(Clone, Copy, Debug, PartialEq, Eq)]
 pub struct Row {
     pub direction: u64,
     pub action: u64,
@@ -53,38 +54,41 @@ pub const LIMIT: usize = 256;
 
 pub const POLICY_WORDS: usize = LIMIT * ROW_WORDS;
 
-pub fn direction_of(word: u64) -> RowDirection
-    ensures { result ≡ direction_of word }
-{
-    match word {
-        1 => RowDirection::Only(Direction::Out),
-        2 => RowDirection::Only(Direction::In),
-        _ => RowDirection::Both,
+// Every word is a direction, and every direction a word.
+impl From<u64> for RowDirection {
+    ghost from_gives = { λ word direction. direction ≡ direction_of word };
+
+    fn from(word: u64) -> RowDirection {
+        match word {
+            1 => RowDirection::Only(Direction::Out),
+            2 => RowDirection::Only(Direction::In),
+            _ => RowDirection::Both,
+        }
     }
 }
 
-pub fn action_of(word: u64) -> Action
-    ensures { result ≡ action_of_word word }
-{
-    match word {
-        0 => Action::Discard,
-        1 => Action::Bypass,
-        _ => Action::Protect(word - 2),
+impl From<RowDirection> for u64 {
+    ghost from_gives = { λ direction word. word ≡ direction_word direction };
+
+    fn from(direction: RowDirection) -> u64 {
+        match direction {
+            RowDirection::Only(Direction::Out) => 1,
+            RowDirection::Only(Direction::In) => 2,
+            RowDirection::Both => 3,
+        }
     }
 }
 
-fn same_direction(a: Direction, b: Direction) -> bool
-    ensures { result ≡ applies_to (RowDirection.Only a) b }
-{
-    match a {
-        Direction::Out => match b {
-            Direction::Out => true,
-            Direction::In => false,
-        },
-        Direction::In => match b {
-            Direction::Out => false,
-            Direction::In => true,
-        },
+// Every word is an action.
+impl From<u64> for Action {
+    ghost from_gives = { λ word action. action ≡ action_of_word word };
+
+    fn from(word: u64) -> Action {
+        match word {
+            0 => Action::Discard,
+            1 => Action::Bypass,
+            _ => Action::Protect(word - 2),
+        }
     }
 }
 
@@ -93,7 +97,7 @@ impl RowDirection {
         ensures { result ≡ applies_to self direction }
     {
         match self {
-            RowDirection::Only(own) => same_direction(own, direction),
+            RowDirection::Only(own) => own == direction,
             RowDirection::Both => true,
         }
     }
@@ -109,65 +113,45 @@ fn row_matches(
     requires { at + row_words ≤ length rows.now }
     ensures { result ≡ matches direction (row_at rows.now at) (values_of values.now) }
 {
-    if !direction_of(rows[at]).applies_to(direction) {
+    if !RowDirection::from(rows[at]).applies_to(direction) {
         return false;
     }
     ranges_hold(rows, at + HEAD_WORDS, values, FIELDS)
 }
 
 // The first row for the direction that holds the values.
-#[derive(Clone, Copy)]
-pub enum Found {
-    Row(usize),
-    Nothing,
-}
-
-pub fn first_match(rows: &[u64], direction: Direction, selectors: Selectors) -> Found
+pub fn first_match(rows: &[u64], direction: Direction, selectors: Selectors) -> Option<usize>
     ensures { result ≡ match_from 0 direction (policy_rows rows.now) (combination selectors) }
 {
     let values = selector_words(selectors);
     let count = rows.len() / ROW_WORDS;
-    let mut row: usize = 0;
-    while row < count {
+    for row in 0..count {
         if row_matches(rows, row * ROW_WORDS, direction, &values) {
-            return Found::Row(row);
+            return Some(row);
         }
-        row += 1;
     }
-    Found::Nothing
+    None
 }
 
 // The ordered search: the action of the first match, and discard where there is none.
 pub fn search(rows: &[u64], direction: Direction, selectors: Selectors) -> Action
     ensures { result ≡ ordered_search direction (policy_rows rows.now) (combination selectors) }
 {
-    let found = first_match(rows, direction, selectors);
-    let Found::Row(row) = found else {
+    let Some(row) = first_match(rows, direction, selectors) else {
         return Action::Discard;
     };
-    action_of(rows[row * ROW_WORDS + 1])
-}
-
-fn ends(low: Value, high: Value) -> Ends
-    ensures { (result.low ≡ low) × (result.high ≡ high) }
-{
-    Ends { low, high }
+    Action::from(rows[row * ROW_WORDS + 1])
 }
 
 fn ranges_of(row: Row) -> Ranges
-    ensures { result ≡ ends_of_record row }
+    ensures { five_ranges result ≡ ranges_of row }
 {
-    let local = row.local;
-    let remote = row.remote;
-    let protocol = row.protocol;
-    let local_port = row.local_port;
-    let remote_port = row.remote_port;
-    Ranges {
-        local: ends(local.low, local.high),
-        remote: ends(remote.low, remote.high),
-        protocol: ends(protocol.low, protocol.high),
-        local_port: ends(local_port.low, local_port.high),
-        remote_port: ends(remote_port.low, remote_port.high),
+    Fields {
+        local: row.local.ends(),
+        remote: row.remote.ends(),
+        protocol: row.protocol.ends(),
+        local_port: row.local_port.ends(),
+        remote_port: row.remote_port.ends(),
     }
 }
 

@@ -7,8 +7,8 @@ ghost use Rattle.selectors.specs.Range.{holds};
 ghost use Rattle.policy.specs.Policy.{matches, ordered_search};
 ghost use Rattle.policy.specs.Words.{ranges_of, row_of};
 
-use policy::{Action, Row};
-use selectors::{Direction, Selectors};
+use policy::{Action, Row, RowDirection};
+use selectors::{Direction, FieldRange, Selectors};
 
 // Whether the five ranges of a row all hold the values.
 fn ranges_hold(row: Row, selectors: Selectors) -> bool
@@ -33,7 +33,7 @@ fn ranges_hold(row: Row, selectors: Selectors) -> bool
 pub fn row_matches(row: Row, direction: Direction, selectors: Selectors) -> bool
     ensures { result ≡ matches direction (row_of row) (combination selectors) }
 {
-    if !policy::direction_of(row.direction).applies_to(direction) {
+    if !RowDirection::from(row.direction).applies_to(direction) {
         return false;
     }
     ranges_hold(row, selectors)
@@ -43,13 +43,10 @@ pub fn row_matches(row: Row, direction: Direction, selectors: Selectors) -> bool
 pub fn search(rows: &[Row], direction: Direction, selectors: Selectors) -> Action
     ensures { result ≡ ordered_search direction (map row_of rows.now) (combination selectors) }
 {
-    let mut i = 0;
-    while i < rows.len() {
-        let row = rows[i];
+    for &row in rows {
         if row_matches(row, direction, selectors) {
-            return policy::action_of(row.action);
+            return Action::from(row.action);
         }
-        i += 1;
     }
     Action::Discard
 }

@@ -4,3 +4,4 @@ pub mod BetweenLaws
 pub mod WordsLaws
 pub mod HeldLaws
 pub mod StoresLaws
+pub mod OrderLaws

@@ -1,5 +1,5 @@
 -- Laws of ranges. Assumes nothing.
-use Rattle.std.specs.Prelude.{ℕ, zero, suc, ◌+◌, ◌≤◌, ◌<◌, ◌≡◌, ◌↔◌, refl, Bool, true, false, not, ◌&&◌, List, [], ◌∷◌, leb, ltb, eqb, length, get_or}
+use Rattle.std.specs.Prelude.{ℕ, zero, suc, ◌+◌, ◌-◌, ◌≤◌, ◌<◌, ◌≡◌, ◌↔◌, refl, Bool, true, false, not, ◌&&◌, List, [], ◌∷◌, leb, ltb, eqb, length, get_or}
 use Rattle.std.proofs.Common.{arith, add-one, ap, le-leb, leb-true, lt-ltb, le-ltb, eq-eqb, ne_eqb, eqb-true}
 use Rattle.std.proofs.Math.Decide.{dec_le, dec_lt, ℕ_discrete}
 use Rattle.std.proofs.Math.Bool.{and-false}
@@ -42,6 +42,10 @@ pub contains_not_below : (r : Range) (v : ℕ) → r.low ≤ v → not (ltb r.hi
 unfolding contains
 contains_not_below r v p = rw (le-leb r.low v p) (not-ltb r.high v)
 
+pub contains_from : (r : Range) (v : ℕ) → r.low ≤ v → leb v r.high ≡ contains r v
+unfolding contains
+contains_from r v p = rw (le-leb r.low v p)
+
 -- A range of a field whose highest value is h, by two tests of order.
 pub in_field_reversed : (size : ℕ) (r : Range) → r.high < r.low → in_field size r ≡ false
 unfolding in_field
@@ -50,6 +54,15 @@ in_field_reversed size r p = rw (lt-leb r.low r.high p)
 pub in_field_ordered : (h : ℕ) (r : Range) → r.low ≤ r.high → not (ltb h r.high) ≡ in_field (h + 1) r
 unfolding in_field
 in_field_ordered h r p = rw (le-leb r.low r.high p, add-one, leb-suc-suc) (not-ltb h r.high)
+
+-- The same of a field with a value at least.
+pub in_field_beyond : (size : ℕ) (r : Range) → 0 < size → size - 1 < r.high → in_field size r ≡ false
+unfolding in_field
+in_field_beyond size r s p = rw (le-ltb r.high size (omega arith)) (and-false (leb r.low r.high))
+
+pub in_field_within : (size : ℕ) (r : Range) → 0 < size → r.low ≤ r.high → r.high ≤ size - 1 → in_field size r ≡ true
+unfolding in_field
+in_field_within size r s p q = rw (le-leb r.low r.high p, lt-ltb r.high size (omega arith))
 
 -- No range whose high end is a port number holds absent: it is not a number. A range holds absent exactly where it begins at absent or below
 -- and ends at absent or beyond.

@@ -3,6 +3,7 @@ use Rattle.std.specs.Prelude.{ℕ, suc, ◌+◌, ◌*◌, ◌^◌, ◌-◌, ◌<
 use Rattle.std.proofs.Common.{arith, mul-le-mul_right, suc-mul, sym, ◌∙◌, lt-ltb, le-ltb, eq-eqb, ne_eqb}
 use Rattle.std.proofs.Math.Decide.{dec_lt, ℕ_discrete}
 use Rattle.std.proofs.Math.Nat.{min-eq_left, min-eq_right}
+use Rattle.std.specs.Ordering.{nat_cmp}
 use Rattle.selectors.specs.Value.{number}
 use Rattle.selectors.specs.declared.Value.{Value}
 
@@ -131,3 +132,10 @@ previous_upper v h g = omega arith
 pub previous_first : (v : Value) → v.lower ≤ 0 → v.upper ≤ 0 → number v ≡ number v - 1
 unfolding number
 previous_first v h g = omega arith
+
+-- The order of two values is that of their numbers: by the lower words where the upper ones are the same, else by the upper ones.
+pub cmp-lower : (a b : Value) → a.upper ≡ b.upper → nat_cmp a.lower b.lower ≡ nat_cmp (number a) (number b)
+cmp-lower a b e = rw (less-lower a b e, same-lower a b e)
+
+pub cmp_upper : (a b : Value) → Words a → Words b → (a.upper ≡ b.upper → ⊥) → nat_cmp a.upper b.upper ≡ nat_cmp (number a) (number b)
+cmp_upper a b wa wb n = rw (less_upper a b wa wb n, ne_eqb a.upper b.upper n, same_upper a b wa wb n)

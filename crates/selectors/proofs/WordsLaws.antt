@@ -17,9 +17,9 @@ use Rattle.selectors.proofs.StoresLaws.{sets_more}
 use Rattle.selectors.specs.Value.{number, combination}
 use Rattle.selectors.proofs.ValueLaws.{Words}
 use Rattle.selectors.specs.Words.{field_count, ranges_words, value_at, ends_at, range_at, ranges_at, ranges_from, values_of, selectors_in, words_of_value, words_of_range, words_of_ranges, words_of_selectors}
-use Rattle.selectors.specs.declared.Ends.{Ends}
-use Rattle.selectors.specs.declared.Ranges.{Ranges}
-use Rattle.selectors.specs.declared.Selectors.{Selectors}
+use Rattle.selectors.specs.declared.ranges.Ends.{Ends}
+use Rattle.selectors.specs.declared.Fields.{Fields}
+use Rattle.selectors.specs.declared.Fields.{Fields}
 use Rattle.selectors.specs.declared.Value.{Value}
 
 -- Whether so many words are there, by what is left of them.
@@ -85,7 +85,7 @@ five-runs ws at A B C D E a b c d =
     ∙ e4
     ∙ ap (λ (l : List ℕ). sets ws at l) whole
 
-pub ranges-put : (ws : List ℕ) (at : ℕ) (r : Ranges)
+pub ranges-put : (ws : List ℕ) (at : ℕ) (r : Fields Ends)
     → sets (sets (sets (sets (sets ws at (words_of_range (ends_range r.local))) (at + 4) (words_of_range (ends_range r.remote))) (at + 8) (words_of_range (ends_range r.protocol))) (at + 12) (words_of_range (ends_range r.local_port))) (at + 16) (words_of_range (ends_range r.remote_port))
     ≡ sets ws at (words_of_ranges (five_ranges r))
 unfolding words_of_value
@@ -96,7 +96,7 @@ ranges-put ws at r =
 pub ends_are : (e : Ends) (low high : Value) → e.low ≡ low → e.high ≡ high → e ≡ record { low = low; high = high }
 ends_are e low high p q = λ k. record { low = p k; high = q k }
 
-pub ranges_are : (r q : Ranges) → r.local ≡ q.local → r.remote ≡ q.remote → r.protocol ≡ q.protocol → r.local_port ≡ q.local_port
+pub ranges_are : (r q : Fields Ends) → r.local ≡ q.local → r.remote ≡ q.remote → r.protocol ≡ q.protocol → r.local_port ≡ q.local_port
     → r.remote_port ≡ q.remote_port → r ≡ q
 ranges_are r q l m p x y = λ k. record { local = l k; remote = m k; protocol = p k; local_port = x k; remote_port = y k }
 
@@ -110,7 +110,7 @@ unfolding number
 value_written n = div-add-mod' n (2 ^ 64)
 
 -- The words of selectors are their values.
-pub selector_values : (s : Selectors) → values_of (words_of_selectors s) ≡ combination s
+pub selector_values : (s : Fields Value) → values_of (words_of_selectors s) ≡ combination s
 unfolding value_at words_of_selectors
 selector_values s = refl
 

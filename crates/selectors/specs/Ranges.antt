@@ -1,19 +1,13 @@
--- The three types of ranges as ranges of numbers, and what their constructors answer. Assumes nothing: these are definitions.
-use Rattle.std.specs.Prelude.{cond, List, [], ◌∷◌}
-use Rattle.selectors.specs.Range.{Range, range, in_field, address_size, protocol_size, port_size}
+-- The types of ranges as ranges of numbers, and what their constructors answer. Assumes nothing: these are definitions.
+use Rattle.std.specs.Prelude.{ℕ, Option, Some, None, cond, List, [], ◌∷◌}
+use Rattle.selectors.specs.Range.{Range, range, in_field}
 use Rattle.selectors.specs.Value.{number}
 use Rattle.selectors.specs.declared.Value.{Value}
-use Rattle.selectors.specs.declared.Ends.{Ends}
-use Rattle.selectors.specs.declared.Ranges.{Ranges}
-use Rattle.selectors.specs.declared.AddressRange.{AddressRange}
-use Rattle.selectors.specs.declared.ProtocolRange.{ProtocolRange}
-use Rattle.selectors.specs.declared.PortRange.{PortRange}
-use Rattle.selectors.specs.declared.NewAddressRange.{NewAddressRange}
-use Rattle.selectors.specs.declared.NewAddressRange.TheVariants.{Made as AddressMade, Refused as AddressRefused}
-use Rattle.selectors.specs.declared.NewProtocolRange.{NewProtocolRange}
-use Rattle.selectors.specs.declared.NewProtocolRange.TheVariants.{Made as ProtocolMade, Refused as ProtocolRefused}
-use Rattle.selectors.specs.declared.NewPortRange.{NewPortRange}
-use Rattle.selectors.specs.declared.NewPortRange.TheVariants.{Made as PortMade, Refused as PortRefused}
+use Rattle.selectors.specs.declared.ranges.Ends.{Ends}
+use Rattle.selectors.specs.declared.Fields.{Fields}
+use Rattle.selectors.specs.declared.ranges.AddressRange.{AddressRange}
+use Rattle.selectors.specs.declared.ranges.ProtocolRange.{ProtocolRange}
+use Rattle.selectors.specs.declared.ranges.PortRange.{PortRange}
 
 -- The range from one value to another.
 abbrev pub from_to : Value → Value → Range
@@ -23,7 +17,7 @@ abbrev pub ends_range : Ends → Range
 ends_range e = from_to e.low e.high
 
 -- The ranges of the five fields, by their ends.
-abbrev pub five_ranges : Ranges → List Range
+abbrev pub five_ranges : Fields Ends → List Range
 five_ranges r = ends_range r.local ∷ ends_range r.remote ∷ ends_range r.protocol ∷ ends_range r.local_port ∷ ends_range r.remote_port ∷ []
 
 abbrev pub address_range : AddressRange → Range
@@ -35,14 +29,16 @@ protocol_range r = from_to r.low r.high
 abbrev pub port_range : PortRange → Range
 port_range r = from_to r.low r.high
 
+-- The range of each type from one value to another.
+abbrev pub address_of : Value → Value → AddressRange
+address_of low high = record { low = low; high = high }
+
+abbrev pub protocol_of : Value → Value → ProtocolRange
+protocol_of low high = record { low = low; high = high }
+
+abbrev pub port_of : Value → Value → PortRange
+port_of low high = record { low = low; high = high }
+
 -- A constructor makes the range, and refuses one with low above high or an end beyond its field.
-abbrev pub new_address_range : Value → Value → NewAddressRange
-new_address_range low high =
-    cond (in_field address_size (from_to low high)) (AddressMade (record { low = low; high = high })) AddressRefused
-
-abbrev pub new_protocol_range : Value → Value → NewProtocolRange
-new_protocol_range low high =
-    cond (in_field protocol_size (from_to low high)) (ProtocolMade (record { low = low; high = high })) ProtocolRefused
-
-abbrev pub new_port_range : Value → Value → NewPortRange
-new_port_range low high = cond (in_field port_size (from_to low high)) (PortMade (record { low = low; high = high })) PortRefused
+abbrev pub new_range : {R : Type 0} → ℕ → (Value → Value → R) → Value → Value → Option R
+new_range size made low high = cond (in_field size (from_to low high)) (Some (made low high)) None

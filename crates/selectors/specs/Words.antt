@@ -5,9 +5,8 @@ use Rattle.std.specs.Prelude.{ℕ, zero, suc, ◌+◌, ◌*◌, ◌/◌, ◌%◌
 use Rattle.selectors.specs.Range.{Range, holds}
 use Rattle.selectors.specs.Ranges.{ends_range}
 use Rattle.selectors.specs.Value.{number}
-use Rattle.selectors.specs.declared.Ends.{Ends}
-use Rattle.selectors.specs.declared.Ranges.{Ranges}
-use Rattle.selectors.specs.declared.Selectors.{Selectors}
+use Rattle.selectors.specs.declared.ranges.Ends.{Ends}
+use Rattle.selectors.specs.declared.Fields.{Fields}
 use Rattle.selectors.specs.declared.Value.{Value}
 
 -- How many fields there are, and the words of a value, of a range, and of a range for each field.
@@ -37,7 +36,7 @@ range_at ws i = ends_range (ends_at ws i)
 abbrev pub ranges_at : List ℕ → ℕ → List Range
 ranges_at ws i = range_at ws i ∷ range_at ws (i + 4) ∷ range_at ws (i + 8) ∷ range_at ws (i + 12) ∷ range_at ws (i + 16) ∷ []
 
-abbrev pub five_at : List ℕ → ℕ → Ranges
+abbrev pub five_at : List ℕ → ℕ → Fields Ends
 five_at ws i =
     record {
       local = ends_at ws i;
@@ -64,7 +63,7 @@ abbrev pub values_of : List ℕ → List ℕ
 values_of ws =
     number (value_at ws 0) ∷ number (value_at ws 2) ∷ number (value_at ws 4) ∷ number (value_at ws 6) ∷ number (value_at ws 8) ∷ []
 
-unfoldable pub selectors_in : List ℕ → Selectors
+unfoldable pub selectors_in : List ℕ → Fields Value
 selectors_in ws =
     record {
       local = value_at ws 0;
@@ -90,7 +89,7 @@ words_of_ranges [] = []
 words_of_ranges (r ∷ rs) = words_of_range r ++ words_of_ranges rs
 
 -- Five selectors are ten words.
-unfoldable pub words_of_selectors : Selectors → List ℕ
+unfoldable pub words_of_selectors : Fields Value → List ℕ
 words_of_selectors s =
     s.local.upper ∷ s.local.lower ∷ s.remote.upper ∷ s.remote.lower ∷ s.protocol.upper ∷ s.protocol.lower
     ∷ s.local_port.upper ∷ s.local_port.lower ∷ s.remote_port.upper ∷ s.remote_port.lower ∷ []

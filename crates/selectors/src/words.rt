@@ -7,7 +7,7 @@ ghost use Rattle.selectors.specs.Ranges.{ends_range, five_ranges};
 ghost use Rattle.selectors.specs.Value.{number};
 ghost use Rattle.selectors.specs.Words.{field_count, range_words, value_at, ends_at, range_at, five_at, ranges_from, values_from, held_at, words_of_value, words_of_range, words_of_ranges, words_of_selectors, selectors_in};
 
-use crate::{Ends, Ranges, Selectors, Value, between};
+use crate::{Ends, Ranges, Selectors, Value};
 
 // How many fields there are, and the words of a value, of a range, of a value for each field, and of a range for each field.
 pub const FIELDS: usize = 5;
@@ -20,11 +20,9 @@ pub const SELECTOR_WORDS: usize = FIELDS * VALUE_WORDS;
 
 pub const RANGES_WORDS: usize = FIELDS * RANGE_WORDS;
 
-const ZERO: Value = Value { upper: 0, lower: 0 };
-
 const NO_ENDS: Ends = Ends {
-    low: ZERO,
-    high: ZERO,
+    low: Value::ZERO,
+    high: Value::ZERO,
 };
 
 const NO_RANGES: Ranges = Ranges {
@@ -120,15 +118,14 @@ fn range_in(words: &[u64], at: usize, value: Value) -> bool
 {
     let low = value_in(words, at);
     let high = value_in(words, at + VALUE_WORDS);
-    between(low, high, value)
+    Ends { low, high }.hold(value)
 }
 
 // Whether the range of the four words from a place on holds a value.
 pub fn range_holds(words: &[u64], at: usize, value: Value) -> bool
     ensures { result ≡ contains (range_at words.now at) (number value) }
 {
-    let ends = ends_at(words, at);
-    between(ends.low, ends.high, value)
+    ends_at(words, at).hold(value)
 }
 
 fn value_of(values: &[u64; SELECTOR_WORDS], field: usize) -> Value
@@ -147,12 +144,10 @@ fn all_hold(words: &[u64], at: usize, values: &[u64; SELECTOR_WORDS], fields: us
     requires { (fields ≤ field_count) × (at + range_words * fields ≤ length words.now) }
     ensures { result ≡ holds (ranges_from words.now at 0 fields) (values_from values.now 0 fields) }
 {
-    let mut f: usize = 0;
-    while f < fields {
+    for f in 0..fields {
         if !range_in(words, at + RANGE_WORDS * f, value_of(values, f)) {
             return false;
         }
-        f += 1;
     }
     true
 }

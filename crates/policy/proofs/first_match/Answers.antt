@@ -1,5 +1,5 @@
 -- `policy::first_match` meets its contract. The loop's invariant: the match in all rows is the match in the rows from `row` on.
--- The measure is the count of those. Assumes nothing.
+-- Assumes nothing.
 use native.Mathlib.Nat.{sub-zero}
 use mathlib.Core.Path.{◌≡◌, sym, ap, ◌∙◌}
 use Rattle.selectors.specs.Value.{combination}
@@ -10,27 +10,25 @@ use borrow.Author.Rules.{rules}
 use Rattle.policy.proofs.first_match.Goals as goal
 
 pub loop-row-init : goal.loop-row-init
-loop-row-init c = (search rules, rw sub-zero)
+loop-row-init c = rw sub-zero
 
 pub returns-then-row_matches : goal.returns-then-row_matches
 returns-then-row_matches c =
     let values-are : combination c.args.selectors ≡ values_of c.selector_words-values.result = sym (selector_values c.args.selectors) ∙ ap values_of (sym c.selector_words-values.ensures) in
     rw (values-are)
-    (sym (c.loop-row.invariant.1
+    (sym (c.loop-row.invariant
     ∙ match-found c.args.direction c.args.rows.now (values_of c.selector_words-values.result) c.loop-row.row _ (search rules)
     (sym c.row_matches.ensures ∙ c.if-row_matches.true)))
 
 pub loop-row-preserved : goal.loop-row-preserved
-loop-row-preserved c = (
-  search rules,
-  c.loop-row.invariant.1
-      ∙ match_passed c.args.direction c.args.rows.now (values_of c.selector_words-values.result) c.loop-row.row _ (search rules)
-      (sym c.row_matches.ensures ∙ c.if-row_matches.false),
-)
+loop-row-preserved c =
+    c.loop-row.invariant
+    ∙ match_passed c.args.direction c.args.rows.now (values_of c.selector_words-values.result) c.loop-row.row _ (search rules)
+    (sym c.row_matches.ensures ∙ c.if-row_matches.false)
 
 pub returns : goal.returns
 returns c =
     let values-are : combination c.args.selectors ≡ values_of c.selector_words-values.result = sym (selector_values c.args.selectors) ∙ ap values_of (sym c.selector_words-values.ensures) in
     rw (values-are)
-    (sym (c.loop-row.invariant.1
+    (sym (c.loop-row.invariant
     ∙ match_ended c.args.direction c.args.rows.now (values_of c.selector_words-values.result) c.loop-row.row _ (search rules)))

@@ -1,6 +1,6 @@
 -- `policy::first_match` meets its contract. The loop's invariant: the match in all rows is the match in the rows from `row` on.
--- The measure is the count of those. Assumes nothing.
-use Prim.Native.Nat.{◌≤◌, ◌-◌}
+-- Assumes nothing.
+use Prim.Native.Nat.{◌-◌}
 use mathlib.Core.Path.{◌≡◌}
 use Rattle.policy.specs.Policy.{match_from}
 use Rattle.selectors.specs.Words.{values_of}
@@ -9,8 +9,4 @@ use Rattle.policy.proofs.first_match.Given as goal
 
 abbrev pub invariant-loop-row : goal.invariant-loop-row
 invariant-loop-row l =
-    (l.row ≤ l.count)
-    × (match_from 0 l.direction (policy_rows l.rows) (values_of l.values) ≡ match_from l.row l.direction (rows_from l.rows l.row (l.count - l.row)) (values_of l.values))
-
-abbrev pub decreases-loop-row : goal.decreases-loop-row
-decreases-loop-row l = l.count - l.row
+    match_from 0 l.direction (policy_rows l.rows) (values_of l.values) ≡ match_from l.row l.direction (rows_from l.rows l.row (l.count - l.row)) (values_of l.values)

@@ -2,7 +2,11 @@
 use Prim.Native.Nat.{suc, ◌+◌}
 use native.Mathlib.Omega.{arith}
 use native.Mathlib.Numerals.{add-one}
-use mathlib.Core.Path.{◌≡◌, sym, ◌∙◌}
+use Rattle.std.proofs.Common.{List}
+use Rattle.std.proofs.lemmas.List.Edits.{sets}
+use mathlib.Core.Path.{◌≡◌, ap, sym, ◌∙◌}
+use Rattle.selectors.specs.Range.{Range}
+use Rattle.selectors.specs.Words.{words_of_ranges}
 use Rattle.selectors.proofs.StoresLaws.{sets_out}
 use Rattle.policy.specs.Words.{words_of_record}
 use Rattle.policy.proofs.put_row.Goals as goal
@@ -15,4 +19,5 @@ returns c =
     let a = c.args in
     let e : a.at + 2 ≡ suc (suc a.at) = omega arith in
     c.put_ranges.ensures
-    ∙ rw (c.ranges_of.ensures, c.put_word-2.ensures, c.put_word.ensures, e, add-one)
+    ∙ ap (λ (rs : List Range). sets c.put_word-2.new.words (a.at + 2) (words_of_ranges rs)) c.ranges_of.ensures
+    ∙ rw (c.put_word-2.ensures, c.put_word.ensures, e, add-one)

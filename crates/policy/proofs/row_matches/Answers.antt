@@ -10,10 +10,10 @@ use Rattle.policy.proofs.row_matches.Goals as goal
 
 pub returns-then-not-applies_to : goal.returns-then-not-applies_to
 unfolding matches row_at
-returns-then-not-applies_to c = rw (← c.direction_of.ensures, sym c.applies_to.ensures ∙ not-true _ c.if-not-applies_to.true-raw)
+returns-then-not-applies_to c = rw (← c.from.ensures, sym c.applies_to.ensures ∙ not-true _ c.if-not-applies_to.true-raw)
 
 pub returns : goal.returns
 unfolding matches row_at
 returns c =
-    rw (← c.direction_of.ensures, sym c.applies_to.ensures ∙ not-false _ c.if-not-applies_to.false-raw)
+    rw (← c.from.ensures, sym c.applies_to.ensures ∙ not-false _ c.if-not-applies_to.false-raw)
     (c.ranges_hold.ensures ∙ held_five c.args.rows.now (c.args.at + 2) c.args.values.now (search rules))

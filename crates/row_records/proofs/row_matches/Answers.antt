@@ -6,10 +6,10 @@ use Rattle.row_records.proofs.row_matches.Goals as goal
 
 pub returns-then-not-applies_to : goal.returns-then-not-applies_to
 unfolding matches
-returns-then-not-applies_to c = rw (← c.direction_of.ensures, sym c.applies_to.ensures ∙ not-true _ c.if-not-applies_to.true-raw)
+returns-then-not-applies_to c = rw (← c.from.ensures, sym c.applies_to.ensures ∙ not-true _ c.if-not-applies_to.true-raw)
 
 pub returns : goal.returns
 unfolding matches
 returns c =
-    rw (← c.direction_of.ensures, sym c.applies_to.ensures ∙ not-false _ c.if-not-applies_to.false-raw)
+    rw (← c.from.ensures, sym c.applies_to.ensures ∙ not-false _ c.if-not-applies_to.false-raw)
     c.ranges_hold.ensures

@@ -1,7 +1,0 @@
--- `selectors::PortRange::is_opaque` meets its contract: the ends of `OPAQUE` are the numbers that the definition has. Assumes nothing.
-use Rattle.selectors.specs.Value.{number}
-use Rattle.selectors.proofs.PortRange.is_opaque.Goals as goal
-
-pub returns : goal.returns
-unfolding number
-returns c = c.same_ends.ensures
