@@ -7,12 +7,14 @@ ghost use Rattle.policy_text.specs.Decimals.{unpadded, decimal};
 ghost use Rattle.policy_text.specs.declared.ParseError.TheVariants.{Refused};
 
 // Where the first byte `b` stands, or the text's length.
+// Stays a number, and no Option: its clause is an equation with `index`, which is the length where there is none.
 pub fn find(s: &[u8], b: u8) -> usize
     ensures { (result ≡ index b s.now) × (result ≤ length s.now) }
 {
     s.iter().position(|x| *x == b).unwrap_or(s.len())
 }
 
+#[tactic(auto, unfolding(crate::specs::Bytes::before))]
 pub fn before(s: &[u8], b: u8) -> &[u8]
     ensures { result.now ≡ before b s.now }
 {
@@ -20,6 +22,7 @@ pub fn before(s: &[u8], b: u8) -> &[u8]
     &s[..end]
 }
 
+#[tactic(auto, using(crate::proofs::BytesLaws::part_rest, crate::proofs::BytesLaws::left_none), unfolding(crate::specs::Bytes::after))]
 pub fn after(s: &[u8], b: u8) -> &[u8]
     ensures { result.now ≡ after b s.now }
 {
@@ -30,12 +33,14 @@ pub fn after(s: &[u8], b: u8) -> &[u8]
     &s[end..]
 }
 
+#[tactic(auto, using(crate::proofs::BytesLaws::count_counts))]
 pub fn count(s: &[u8], b: u8) -> usize
     ensures { result ≡ count b s.now }
 {
     s.iter().filter(|x| **x == b).count()
 }
 
+#[tactic(auto, using(crate::proofs::FormatLaws::unpadded_empty, crate::proofs::FormatLaws::unpadded_one, crate::proofs::FormatLaws::unpadded_more))]
 fn unpadded(s: &[u8]) -> bool
     ensures { result ≡ unpadded s.now }
 {
@@ -47,6 +52,7 @@ fn unpadded(s: &[u8]) -> bool
 }
 
 // The number that a text stands for, if it is at most `max`.
+#[tactic(auto, using(crate::proofs::FormatLaws::decimals))]
 pub fn decimal(s: &[u8], max: u16) -> Option<u64>
     ensures value { result ≡ decimal max s.now }
     ensures within { IfSome result (λ n. n ≤ max) }
