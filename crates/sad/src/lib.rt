@@ -105,20 +105,6 @@ impl Head {
     }
 }
 
-#[tactic(auto, unfolding(crate::specs::Pairs::pair_at))]
-fn head_at(table: &[u64; TABLE_WORDS], place: usize) -> Head
-    requires { place < place_count }
-    ensures { result ≡ head_of (pair_at table.now place) }
-{
-    let at = place * PLACE_WORDS;
-    Head {
-        protocol: table[at],
-        spi_in: table[at + SPI_IN],
-        spi_out: table[at + SPI_OUT],
-        number: table[at + NUMBER],
-    }
-}
-
 // Whether the ranges of a place hold the values.
 fn holds_at(table: &[u64; TABLE_WORDS], place: usize, values: &[u64; SELECTOR_WORDS]) -> bool
     requires { place < place_count }
@@ -128,7 +114,7 @@ fn holds_at(table: &[u64; TABLE_WORDS], place: usize, values: &[u64; SELECTOR_WO
 }
 
 // Whether a place has the live pair of that name. Most places are passed over at their SPI.
-// Stays: word by word. A head that `head_at` reads whole is compared whole, without a branch: `is_live` took 62 ns, and 37 so.
+// Stays: word by word. A `Head` that is read whole is compared whole, without a branch: `is_live` took 62 ns, and 37 so.
 #[tactic(auto, unfolding(crate::specs::Pairs::pair_at))]
 fn is_named(table: &[u64; TABLE_WORDS], place: usize, protocol: u64, spi_in: u64) -> bool
     requires { place < place_count }
@@ -188,7 +174,13 @@ fn best_pair(
 {
     let mut best = None;
     for place in 0..PLACES {
-        let head = head_at(table, place);
+        let at = place * PLACE_WORDS;
+        let head = Head {
+            protocol: table[at],
+            spi_in: table[at + SPI_IN],
+            spi_out: table[at + SPI_OUT],
+            number: table[at + NUMBER],
+        };
         if head.is_better(best, number) && holds_at(table, place, values) {
             best = Some(head);
         }
