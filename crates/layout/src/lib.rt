@@ -5,6 +5,7 @@ mod branch;
 mod intervals;
 mod lists;
 mod room;
+mod span;
 mod stretches;
 
 ghost use Rattle.std.specs.Prelude.{◌+◌, ◌-◌, ◌≤◌, ◌<◌, length};
@@ -20,6 +21,7 @@ use crate::branch::{Branch, Task};
 use crate::intervals::interval_end;
 use crate::lists::{narrow, rows_for, with_value};
 use crate::room::{place_stretch, stamp};
+use crate::span::Span;
 use crate::stretches::{joined, known_alike, leaf};
 use agree::cutting;
 use arrayvec::ArrayVec;
@@ -53,12 +55,10 @@ struct Kept {
     low: Value,
 }
 
-const ZERO: Value = Value { upper: 0, lower: 0 };
-
 const START: Kept = Kept {
     last: 0,
     next: 0,
-    low: ZERO,
+    low: Value::ZERO,
 };
 
 // Lays out what follows the branch's field at its value `from`: the next field, or the leaf where none is left. None: it is known to be what
@@ -116,9 +116,9 @@ fn layout_field(branch: &Branch, room: &mut [u64]) -> Result<usize, LayoutError>
     cutting(branch.first, branch.of_first, field, &mut cuts);
     cutting(branch.second, branch.of_second, field, &mut other_cuts);
     let mut kept = START;
-    let mut from = ZERO;
+    let mut from = Value::ZERO;
     loop {
-        let end = interval_end(branch, &cuts, &other_cuts, from, top);
+        let end = interval_end(branch, &cuts, &other_cuts, Span { from, last: top });
         let base = kept.next * ROW_WORDS;
         let laid = layout_stretch(branch, from, &mut room[base..])?;
         kept = place_stretch(room, kept, laid, field, from);
@@ -126,7 +126,7 @@ fn layout_field(branch: &Branch, room: &mut [u64]) -> Result<usize, LayoutError>
         if limit < next {
             return Err(LayoutError::Over);
         }
-        if !end.less(top) {
+        if end == top {
             stamp(room, kept.last, next, field, kept.low, top);
             return Ok(next);
         }
