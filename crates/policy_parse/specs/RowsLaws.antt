@@ -1,14 +1,14 @@
 -- Laws of lines and their rows, and of rows put into a room. Assumes nothing.
 use Prim.Native.Nat.{ℕ, zero, suc, ◌+◌, ◌-◌, ◌*◌, ◌≤◌, ◌<◌}
 use native.Mathlib.Omega.{arith}
-use Rattle.std.specs.Prelude.{◌≡◌, refl, List, [], ◌∷◌, length}
+use Rattle.std.specs.Prelude.{◌≡◌, refl, List, [], ◌∷◌, length, Some, None, Err}
 use Rattle.std.proofs.Common.{ap, ◌∙◌}
 use Rattle.std.proofs.Math.Option.{Option, none, some}
 use Rattle.std.proofs.lemmas.List.Edits.{sets}
 use Rattle.policy.specs.Policy.{PolicyRow}
 use Rattle.policy.specs.declared.Row.{Row}
-use Rattle.policy_fields.specs.declared.RowText.TheVariants.{Row as RowIs, Bad as RowBad}
 use Rattle.policy.specs.Words.{row_words, words_of_row, words_of, words_of_all}
+use Rattle.policy_text.specs.declared.Refusal.TheVariants.{BadRow}
 use Rattle.policy_text.specs.Bytes.{lf, before, after}
 use Rattle.policy_text.specs.Edition1.{edition1}
 use Rattle.policy_text.specs.Format.{row_of, lines_of, Lines, all_rows, bad_row, onto, rows_of}
@@ -31,11 +31,11 @@ module _ (s : List ℕ) (i n : ℕ) (h : i < n) where
   unfolding lines_of
   one_line = let e : n - i ≡ suc (n - (i + 1)) = omega arith in rw e
 
-  pub bad_line : entry_of (before lf s) ≡ RowBad → bad_of (rows_of edition1 (i + 1) (lines_of (n - i) s)) ≡ i + 1
+  pub bad_line : entry_of (before lf s) ≡ None → bad_of (rows_of edition1 (i + 1) (lines_of (n - i) s)) ≡ Err (BadRow (i + 1))
   unfolding rows_of
   bad_line e = rw (one_line, bad_none (before lf s) e)
 
-  pub good_line : (e : Row) → entry_of (before lf s) ≡ RowIs e
+  pub good_line : (e : Row) → entry_of (before lf s) ≡ Some e
       → bad_of (rows_of edition1 (i + 1) (lines_of (n - i) s)) ≡ bad_of (rows_of edition1 (i + 1 + 1) (lines_of (n - (i + 1)) (after lf s)))
   unfolding rows_of
   good_line e q =
