@@ -13,12 +13,12 @@ ghost use Rattle.sad.specs.Pairs.{outcome_number};
 ghost use Rattle.verdicts.specs.Verdict.{verdict_number, carried};
 ghost use Rattle.answer_numbers.specs.Carries.{parsed_carries, printed_carries, compared_words};
 
-use acceptance::Acceptance;
-use normal_form_file::Normalised;
-use policy_print::Printed;
-use policy_text::{Parsed, Refusal};
-use sad::Outcome;
-use same_policy::Compared;
+use acceptance::AcceptError;
+use normal_form_file::NormaliseError;
+use policy_print::NoRoom;
+use policy_text::{ParseError, Refusal, Rows};
+use sad::PairError;
+use same_policy::CompareError;
 use selectors::Direction;
 use verdicts::Verdict;
 
@@ -56,33 +56,33 @@ pub fn verdict_carries(verdict: Verdict) -> [u64; 3]
     ensures { result ≡ carried verdict }
 {
     match verdict {
-        Verdict::Pass => [0, 0, 0],
-        Verdict::Deliver => [0, 0, 0],
         Verdict::Protect(number, protocol, spi) => [number, protocol, spi],
         Verdict::Wanted(number) => [number, 0, 0],
         Verdict::ToIpsec(protocol, spi) => [protocol, spi, 0],
-        Verdict::NotReadable => [0, 0, 0],
-        Verdict::Discarded => [0, 0, 0],
-        Verdict::CameInClear => [0, 0, 0],
-        Verdict::NoSuchPair => [0, 0, 0],
-        Verdict::DoesNotFit => [0, 0, 0],
-        Verdict::IpsecFragment => [0, 0, 0],
-        Verdict::IpsecTooShort => [0, 0, 0],
-        Verdict::TriggerUnreadable => [0, 0, 0],
-        Verdict::TriggerDoesNotFit => [0, 0, 0],
+        Verdict::Pass
+        | Verdict::Deliver
+        | Verdict::NotReadable
+        | Verdict::Discarded
+        | Verdict::CameInClear
+        | Verdict::NoSuchPair
+        | Verdict::DoesNotFit
+        | Verdict::IpsecFragment
+        | Verdict::IpsecTooShort
+        | Verdict::TriggerUnreadable
+        | Verdict::TriggerDoesNotFit => [0, 0, 0],
     }
 }
 
-pub fn outcome_number(outcome: Outcome) -> u64
+pub fn outcome_number(outcome: Result<(), PairError>) -> u64
     ensures { result ≡ outcome_number outcome }
 {
     match outcome {
-        Outcome::Done => 5,
-        Outcome::ReservedSpi => 25,
-        Outcome::AlreadyLive => 26,
-        Outcome::TableFull => 27,
-        Outcome::BadPair => 28,
-        Outcome::NothingToRemove => 29,
+        Ok(()) => 5,
+        Err(PairError::ReservedSpi) => 25,
+        Err(PairError::AlreadyLive) => 26,
+        Err(PairError::TableFull) => 27,
+        Err(PairError::BadPair) => 28,
+        Err(PairError::NothingToRemove) => 29,
     }
 }
 
@@ -101,111 +101,108 @@ pub fn refusal_carries(refusal: Refusal) -> u64
     ensures { result ≡ refusal_carries refusal }
 {
     match refusal {
-        Refusal::NotHeader => 0,
-        Refusal::NotEnded => 0,
-        Refusal::TooMany => 0,
+        Refusal::NotHeader | Refusal::NotEnded | Refusal::TooMany => 0,
         Refusal::BadRow(row) => row as u64,
     }
 }
 
-pub fn parsed_number(parsed: Parsed) -> u64
+pub fn parsed_number(parsed: Result<Rows, ParseError>) -> u64
     ensures { result ≡ parsed_number parsed }
 {
     match parsed {
-        Parsed::Rows(_, _) => 5,
-        Parsed::Refused(refusal) => refusal_number(refusal),
-        Parsed::NoRoom => 31,
+        Ok(_rows) => 5,
+        Err(ParseError::Refused(refusal)) => refusal_number(refusal),
+        Err(ParseError::NoRoom) => 31,
     }
 }
 
-pub fn parsed_carries(parsed: Parsed) -> u64
+pub fn parsed_carries(parsed: Result<Rows, ParseError>) -> u64
     ensures { result ≡ parsed_carries parsed }
 {
     match parsed {
-        Parsed::Rows(_, count) => count as u64,
-        Parsed::Refused(refusal) => refusal_carries(refusal),
-        Parsed::NoRoom => 0,
+        Ok(rows) => rows.count as u64,
+        Err(ParseError::Refused(refusal)) => refusal_carries(refusal),
+        Err(ParseError::NoRoom) => 0,
     }
 }
 
-pub fn printed_number(printed: Printed) -> u64
+pub fn printed_number(printed: Result<usize, NoRoom>) -> u64
     ensures { result ≡ printed_number printed }
 {
     match printed {
-        Printed::Bytes(_) => 5,
-        Printed::NoRoom => 31,
+        Ok(_bytes) => 5,
+        Err(NoRoom) => 31,
     }
 }
 
-pub fn printed_carries(printed: Printed) -> u64
+pub fn printed_carries(printed: Result<usize, NoRoom>) -> u64
     ensures { result ≡ printed_carries printed }
 {
     match printed {
-        Printed::Bytes(count) => count as u64,
-        Printed::NoRoom => 0,
+        Ok(bytes) => bytes as u64,
+        Err(NoRoom) => 0,
     }
 }
 
-pub fn normalised_number(normalised: Normalised) -> u64
+pub fn normalised_number(normalised: Result<usize, NormaliseError>) -> u64
     ensures { result ≡ normalised_number normalised }
 {
     match normalised {
-        Normalised::Printed(_) => 5,
-        Normalised::Refused(refusal) => refusal_number(refusal),
-        Normalised::TooLarge(_) => 22,
-        Normalised::NoRoom => 31,
+        Ok(_length) => 5,
+        Err(NormaliseError::Refused(refusal)) => refusal_number(refusal),
+        Err(NormaliseError::TooLarge(_)) => 22,
+        Err(NormaliseError::NoRoom) => 31,
     }
 }
 
-pub fn normalised_carries(normalised: Normalised) -> u64
+pub fn normalised_carries(normalised: Result<usize, NormaliseError>) -> u64
     ensures { result ≡ normalised_carries normalised }
 {
     match normalised {
-        Normalised::Printed(count) => count as u64,
-        Normalised::Refused(refusal) => refusal_carries(refusal),
-        Normalised::TooLarge(direction) => direction_number(direction),
-        Normalised::NoRoom => 0,
+        Ok(length) => length as u64,
+        Err(NormaliseError::Refused(refusal)) => refusal_carries(refusal),
+        Err(NormaliseError::TooLarge(direction)) => direction_number(direction),
+        Err(NormaliseError::NoRoom) => 0,
     }
 }
 
-pub fn acceptance_number(acceptance: Acceptance) -> u64
+pub fn acceptance_number(acceptance: Result<(), AcceptError>) -> u64
     ensures { result ≡ acceptance_number acceptance }
 {
     match acceptance {
-        Acceptance::Accepted => 5,
-        Acceptance::Refused(refusal) => refusal_number(refusal),
-        Acceptance::TooLarge(_) => 22,
+        Ok(()) => 5,
+        Err(AcceptError::Refused(refusal)) => refusal_number(refusal),
+        Err(AcceptError::TooLarge(_)) => 22,
     }
 }
 
-pub fn acceptance_carries(acceptance: Acceptance) -> u64
+pub fn acceptance_carries(acceptance: Result<(), AcceptError>) -> u64
     ensures { result ≡ acceptance_carries acceptance }
 {
     match acceptance {
-        Acceptance::Accepted => 0,
-        Acceptance::Refused(refusal) => refusal_carries(refusal),
-        Acceptance::TooLarge(direction) => direction_number(direction),
+        Ok(()) => 0,
+        Err(AcceptError::Refused(refusal)) => refusal_carries(refusal),
+        Err(AcceptError::TooLarge(direction)) => direction_number(direction),
     }
 }
 
-pub fn compared_number(compared: Compared) -> u64
+pub fn compared_number(compared: Result<bool, CompareError>) -> u64
     ensures { result ≡ compared_number compared }
 {
     match compared {
-        Compared::Same => 5,
-        Compared::Different => 5,
-        Compared::FirstRefused(refusal) => refusal_number(refusal),
-        Compared::SecondRefused(refusal) => refusal_number(refusal),
+        Ok(_same) => 5,
+        Err(CompareError::First(refusal)) => refusal_number(refusal),
+        Err(CompareError::Second(refusal)) => refusal_number(refusal),
     }
 }
 
-pub fn compared_carries(compared: Compared) -> [u64; 2]
+pub fn compared_carries(compared: Result<bool, CompareError>) -> [u64; 2]
     ensures { result ≡ compared_words compared }
 {
     match compared {
-        Compared::Same => [1, 0],
-        Compared::Different => [0, 0],
-        Compared::FirstRefused(refusal) => [refusal_carries(refusal), 1],
-        Compared::SecondRefused(refusal) => [refusal_carries(refusal), 2],
+        Ok(true) => [1, 0],
+        Ok(false) => [0, 0],
+        Err(CompareError::First(refusal)) => [refusal_carries(refusal), 1],
+        Err(CompareError::Second(refusal)) => [refusal_carries(refusal), 2],
     }
 }
