@@ -6,7 +6,7 @@ ghost use Rattle.packet.specs.Read.{trigger_of};
 ghost use Rattle.abi.specs.Words.{direction_of_number, pair_from, kind_of_action, number_of_action, is_found, place_found, trigger_part};
 
 use packet::Packet;
-use policy::{Action, Found};
+use policy::Action;
 use sad::NewPair;
 use selectors::Direction;
 use selectors::words::{RANGES_WORDS, ranges_at};
@@ -14,10 +14,10 @@ use selectors::words::{RANGES_WORDS, ranges_at};
 pub fn direction_from(number: u64) -> Direction
     ensures { result ≡ direction_of_number number }
 {
-    if number == 1 {
-        return Direction::Out;
+    match number {
+        1 => Direction::Out,
+        _ => Direction::In,
     }
-    Direction::In
 }
 
 pub fn pair_from(
@@ -52,28 +52,21 @@ pub fn action_number(action: Action) -> u64
     ensures { result ≡ number_of_action action }
 {
     match action {
-        Action::Discard => 0,
-        Action::Bypass => 0,
+        Action::Discard | Action::Bypass => 0,
         Action::Protect(number) => number,
     }
 }
 
-pub fn is_found(found: Found) -> bool
+pub fn is_found(found: Option<usize>) -> bool
     ensures { result ≡ is_found found }
 {
-    match found {
-        Found::Row(_) => true,
-        Found::Nothing => false,
-    }
+    found.is_some()
 }
 
-pub fn place_found(found: Found) -> u64
+pub fn place_found(found: Option<usize>) -> u64
     ensures { result ≡ place_found found }
 {
-    match found {
-        Found::Row(place) => place as u64,
-        Found::Nothing => 0,
-    }
+    found.unwrap_or(0) as u64
 }
 
 // Where the triggering header starts and how long it is.

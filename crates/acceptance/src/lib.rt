@@ -110,7 +110,8 @@ pub fn accept(
     ensures words_after { words.new ≡ spd_after row_limit row_limit words.old (parse_policy row_limit bytes.now) }
     ensures caches_after { caches.new ≡ caches_after row_limit caches.old (parse_policy row_limit bytes.now) }
 {
-    let mut policy = [0u64; POLICY_WORDS];
-    let parsed = policy_parse::parse_policy(bytes, &mut policy)?;
-    load(words, caches, parsed.edition, policy::first_rows(&policy, parsed.count))
+    let mut room = [0u64; POLICY_WORDS];
+    let parsed = policy_parse::parse_policy(bytes, &mut room)?;
+    let rows = policy::first_rows(&room, parsed.count);
+    load(words, caches, parsed.edition, rows)
 }

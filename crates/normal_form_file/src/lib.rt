@@ -52,7 +52,8 @@ fn print_form(
     let Ok(count) = decorrelate::form_of(edition, policy, direction, &mut words) else {
         return Err(NormaliseError::TooLarge(direction));
     };
-    let bytes = policy_print::print(edition, policy::first_rows(&words, count), direction, out)?;
+    let rows = policy::first_rows(&words, count);
+    let bytes = policy_print::print(edition, rows, direction, out)?;
     Ok(bytes)
 }
 
@@ -65,7 +66,8 @@ pub fn normalise(
     ensures value { result ≡ normalised row_limit direction (length out.old) (parse_policy row_limit bytes.now) }
     ensures out_after { out.new ≡ normalised_bytes row_limit direction out.old (parse_policy row_limit bytes.now) }
 {
-    let mut policy = [0u64; POLICY_WORDS];
-    let parsed = policy_parse::parse_policy(bytes, &mut policy)?;
-    print_form(parsed.edition, policy::first_rows(&policy, parsed.count), direction, out)
+    let mut room = [0u64; POLICY_WORDS];
+    let parsed = policy_parse::parse_policy(bytes, &mut room)?;
+    let rows = policy::first_rows(&room, parsed.count);
+    print_form(parsed.edition, rows, direction, out)
 }

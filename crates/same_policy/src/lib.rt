@@ -22,13 +22,15 @@ pub fn same_policy(first: &[u8], second: &[u8], direction: Direction) -> Result<
     ensures { result ≡ compared direction (parse_policy row_limit first.now) (parse_policy row_limit second.now) }
 {
     let mut first_room = [0u64; POLICY_WORDS];
-    let first_parsed = policy_parse::parse_policy(first, &mut first_room).map_err(CompareError::First)?;
+    let first_file = policy_parse::parse_policy(first, &mut first_room);
+    let first_rows = first_file.map_err(CompareError::First)?;
     let mut second_room = [0u64; POLICY_WORDS];
-    let second_parsed = policy_parse::parse_policy(second, &mut second_room).map_err(CompareError::Second)?;
+    let second_file = policy_parse::parse_policy(second, &mut second_room);
+    let second_rows = second_file.map_err(CompareError::Second)?;
     let same = decorrelate::same(
-        first_parsed.edition,
-        policy::first_rows(&first_room, first_parsed.count),
-        policy::first_rows(&second_room, second_parsed.count),
+        first_rows.edition,
+        policy::first_rows(&first_room, first_rows.count),
+        policy::first_rows(&second_room, second_rows.count),
         direction,
     );
     Ok(same)

@@ -26,7 +26,6 @@ ghost use Rattle.specksonne.specs.Lent.{caches_from};
 ghost use Rattle.specksonne.specs.Sizes.{abi_number, version_number, most_form_bytes};
 
 use acceptance::Caches;
-use packet::Reading;
 use policy::{LIMIT, ROW_WORDS, Row};
 use policy_text::Edition;
 use sad::TABLE_WORDS;
@@ -127,12 +126,10 @@ pub extern "C" fn specksonne_fresh(
     ensures table_after { (table.new ≡ replicate table_words 0) × (pairs table.new ≡ []) }
     ensures outbound_after { (outbound.new ≡ cache_words empty_cache) × (inbound.new ≡ cache_words empty_cache) }
 {
-    let caches = acceptance::fresh(policy, address);
+    let empty = acceptance::fresh(policy, address);
     *table = [0; TABLE_WORDS];
-    let empty_out = caches.outbound;
-    lent::save(outbound, empty_out);
-    let empty_in = caches.inbound;
-    lent::save(inbound, empty_in);
+    lent::save(outbound, empty.outbound);
+    lent::save(inbound, empty.inbound);
 }
 
 // Hands a policy file to the gateway (`acceptance::accept`).
@@ -150,19 +147,15 @@ pub extern "C" fn specksonne_policy(
     ensures inbound_after { inbound.new ≡ cache_words (caches_after row_limit (caches_from outbound.old inbound.old) (parse_policy row_limit bytes.now)).inbound }
     ensures carries_after { carries.new ≡ acceptance_carries (accepting row_limit (parse_policy row_limit bytes.now)) }
 {
-    let before = Caches {
+    let mut caches = Caches {
         outbound: lent::load(outbound),
         inbound: lent::load(inbound),
     };
-    let settled = acceptance::accept(policy, before, bytes);
-    let acceptance = settled.acceptance;
-    let after = settled.caches;
-    let after_out = after.outbound;
-    lent::save(outbound, after_out);
-    let after_in = after.inbound;
-    lent::save(inbound, after_in);
-    *carries = answer_numbers::acceptance_carries(acceptance);
-    answer_numbers::acceptance_number(acceptance)
+    let accepted = acceptance::accept(policy, &mut caches, bytes);
+    lent::save(outbound, caches.outbound);
+    lent::save(inbound, caches.inbound);
+    *carries = answer_numbers::acceptance_carries(accepted);
+    answer_numbers::acceptance_number(accepted)
 }
 
 // Whether a packet is readable, and its five selectors (`packet::read`).
@@ -177,11 +170,11 @@ pub extern "C" fn specksonne_read(
 {
     let reading = packet::read(bytes, abi::direction_from(direction));
     match reading {
-        Reading::Readable(packet) => {
+        Some(packet) => {
             *selectors = selectors::words::selector_words(packet.selectors);
             true
         }
-        Reading::Unreadable => {
+        None => {
             *selectors = [0; SELECTOR_WORDS];
             false
         }
@@ -196,11 +189,11 @@ pub extern "C" fn specksonne_trigger(bytes: &[u8], part: &mut [u64; 2]) -> bool
 {
     let reading = packet::read(bytes, Direction::Out);
     match reading {
-        Reading::Readable(packet) => {
+        Some(packet) => {
             *part = abi::trigger_part(bytes, packet);
             true
         }
-        Reading::Unreadable => {
+        None => {
             *part = [0; 2];
             false
         }

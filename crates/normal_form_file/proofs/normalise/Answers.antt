@@ -7,5 +7,5 @@ pub returns : goal.returns
 returns c =
     let p = c.parse_policy.ensures in
     let file = taken row_limit c.args.bytes.now _ _ _ p.value p.rows_after c.in_ok-parsed.parsed c.in_ok-parsed.was in
-    let done = rw c.first_rows.ensures at c.print_form.ensures in
+    let done = rw c.first_rows-rows.ensures at c.print_form.ensures in
     rw file.is done

@@ -14,7 +14,7 @@ returns-in_err-bytes c =
     let rs = rules a.edition (policy_rows a.policy.now) in
     let own = held row_limit row_limit (omega arith) a.direction rs c.in-Ok.count _ _ (sym f.value ∙ c.in-Ok.is) f.form_after in
     let e = c.print.ensures in
-    let done = print_done row_limit a.direction rs a.out.now (omega (arith, own.few, own.rows)) _ (c.first_rows.ensures ∙ own.front) _ _ e.value e.out_after in
+    let done = print_done row_limit a.direction rs a.out.now (omega (arith, own.few, own.rows)) _ (c.first_rows-rows.ensures ∙ own.front) _ _ e.value e.out_after in
     let p = err_from_is_err_and c.from_residual.result c.from_residual.ensures.1 in
     record { value = rw (p.1, p.2) (rw c.in_err-bytes.was at done.0); out_after = done.1 }
 
@@ -25,5 +25,5 @@ returns c =
     let rs = rules a.edition (policy_rows a.policy.now) in
     let own = held row_limit row_limit (omega arith) a.direction rs c.in-Ok.count _ _ (sym f.value ∙ c.in-Ok.is) f.form_after in
     let e = c.print.ensures in
-    let done = print_done row_limit a.direction rs a.out.now (omega (arith, own.few, own.rows)) _ (c.first_rows.ensures ∙ own.front) _ _ e.value e.out_after in
+    let done = print_done row_limit a.direction rs a.out.now (omega (arith, own.few, own.rows)) _ (c.first_rows-rows.ensures ∙ own.front) _ _ e.value e.out_after in
     record { value = rw c.in_ok-bytes.was at done.0; out_after = done.1 }

@@ -7,5 +7,5 @@ use Rattle.specksonne.proofs.specksonne_fresh.Goals as goal
 
 pub returns : goal.returns
 returns c =
-    let f = c.fresh-caches.ensures in
+    let f = c.fresh-empty.ensures in
     record { policy_after = f.1; table_after = (refl, fresh-pairs); outbound_after = (c.save.ensures ∙ ap (λ (r : Caches). cache_words r.outbound) f.0, c.save-2.ensures ∙ ap (λ (r : Caches). cache_words r.inbound) f.0) }

@@ -4,7 +4,7 @@ use Rattle.specksonne.proofs.specksonne_policy.Goals as goal
 
 pub returns : goal.returns
 returns c =
-    let a = c.accept-settled.ensures in
+    let a = c.accept-accepted.ensures in
     rw (
       c.acceptance_number.ensures,
       c.acceptance_carries.ensures,
@@ -12,6 +12,7 @@ returns c =
       c.save.ensures,
       a.value,
       a.words_after,
+      a.caches_after,
       c.load-2.ensures,
       c.load.ensures,
     )

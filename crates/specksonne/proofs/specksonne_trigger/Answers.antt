@@ -2,9 +2,9 @@
 use mathlib.Core.Path.{refl, sym, ◌∙◌}
 use Rattle.specksonne.proofs.specksonne_trigger.Goals as goal
 
-pub returns-in-Readable : goal.returns-in-Readable
-returns-in-Readable c =
-    rw (c.trigger_part.ensures, sym c.read-reading.ensures ∙ c.in-Readable.is) (record { value = refl; part_after = refl })
+pub returns-in-Some : goal.returns-in-Some
+returns-in-Some c =
+    rw (c.trigger_part.ensures, sym c.read-reading.ensures ∙ c.in-Some.is) (record { value = refl; part_after = refl })
 
-pub returns-in-Unreadable : goal.returns-in-Unreadable
-returns-in-Unreadable c = rw (sym c.read-reading.ensures ∙ c.in-Unreadable.is) (record { value = refl; part_after = refl })
+pub returns-in-None : goal.returns-in-None
+returns-in-None c = rw (sym c.read-reading.ensures ∙ c.in-None.is) (record { value = refl; part_after = refl })
