@@ -10,13 +10,13 @@ use Rattle.std.proofs.lemmas.List.Elements.{filter-append}
 use Rattle.selectors.specs.Range.{Range, contains, holds}
 use Rattle.selectors.specs.Ranges.{ends_range}
 use Rattle.selectors.specs.Words.{field_count, ends_at, range_at}
-use Rattle.selectors.specs.declared.Ends.{Ends}
+use Rattle.selectors.specs.declared.ranges.Ends.{Ends}
 use Rattle.normal_form.specs.Search.{Row, find}
 use Rattle.policy.specs.Words.{row_words, row_limit}
 use Rattle.cover.specs.Boxes.{ranges_word, row_of, in_second, table_of, code_holds}
 use Rattle.cover.specs.RangesLaws.{ranges_moved}
 use Rattle.agree.specs.Sides.{row_behind, Alike, on_side, code_action, Sides, sides, on_at, action_at, holds_at, on, first_of, side_action, Agreed, sides_of, side_rows, SideRows, Next}
-use Rattle.agree.specs.declared.Side.TheVariants.{First, Second}
+use Rattle.agree.specs.declared.sides.Side.TheVariants.{First, Second}
 
 -- A row from any field on is what its words from the action on are.
 pub row_same : (first second : List ℕ) (a b : ℕ)
@@ -157,7 +157,7 @@ choose us g h false e es i k p q = q
 
 module _ (first second es : List ℕ) (f : ℕ) (s : Bool) (us : List ℕ) where
   abbrev entries : Sides
-  entries = sides first second es (length es) f
+  entries = sides first second es f
 
   action-in : (i : ℕ) → i < length es → code_action first second (get_or es i 0) ≡ action_at entries i
   unfolding action_at
@@ -184,7 +184,7 @@ module _ (first second es : List ℕ) (f : ℕ) (s : Bool) (us : List ℕ) where
   found = found_from 0 (length es) (omega arith)
 
 -- Lists of rows are alike where the sides of their entries agree.
-pub alike_of : (first second xs ys es : List ℕ) (f : ℕ) (bs : List ℕ) → SideRows first second xs ys es → Agreed (sides first second es (length es) f) bs
+pub alike_of : (first second xs ys es : List ℕ) (f : ℕ) (bs : List ℕ) → SideRows first second xs ys es → Agreed (sides first second es f) bs
     → Alike f bs first xs second ys
 unfolding Agreed Alike
 alike_of first second xs ys es f bs r a us h =

@@ -7,8 +7,9 @@ use Rattle.selectors.specs.Words.{range_words, range_at}
 use Rattle.normal_form.specs.Search.{Row, row, find}
 use Rattle.policy.specs.Words.{row_words, row_limit}
 use Rattle.cover.specs.Boxes.{ranges_word, ranges_behind, InBox, row_of, table_of, code_holds}
-use Rattle.agree.specs.declared.Side.{Side}
-use Rattle.agree.specs.declared.Side.TheVariants.{First, Second}
+use Rattle.agree.specs.declared.sides.Entries.{Entries}
+use Rattle.agree.specs.declared.sides.Side.{Side}
+use Rattle.agree.specs.declared.sides.Side.TheVariants.{First, Second}
 
 -- The word of the action of the row i; and whether the row does not discard.
 abbrev pub action_in : List ℕ → ℕ → ℕ
@@ -30,6 +31,15 @@ Alike f bs first xs second ys =
 abbrev pub range_of : List ℕ → ℕ → ℕ → Range
 range_of ws i f = range_at ws (ranges_word i + range_words * f)
 
+-- Whether a side is the second one; and the side of which this is so.
+abbrev pub is_second : Side → Bool
+is_second First = false
+is_second Second = true
+
+abbrev pub side_of : Bool → Side
+side_of false = First
+side_of true = Second
+
 -- The row of a code is on the second side, or on the first; and the word of its action.
 abbrev pub on_side : Bool → ℕ → Bool
 on_side second e = cond second (eqb (e / 2 % 2) 1) (eqb (e % 2) 1)
@@ -37,29 +47,34 @@ on_side second e = cond second (eqb (e / 2 % 2) 1) (eqb (e % 2) 1)
 abbrev pub code_action : List ℕ → List ℕ → ℕ → ℕ
 code_action first second e = action_in (table_of first second e) (row_of e)
 
--- Entries: the codes of rows of two policies, the first `count` of a list, of which the fields from `field` on count.
+-- Entries: the codes of rows of two policies, of which the fields from `field` on count.
 pub record Sides : Type 0 where
   pub first : List ℕ
   pub second : List ℕ
   pub codes : List ℕ
-  pub count : ℕ
   pub field : ℕ
 
-abbrev pub sides : List ℕ → List ℕ → List ℕ → ℕ → ℕ → Sides
-sides first second codes count field = record { first = first; second = second; codes = codes; count = count; field = field }
+abbrev pub sides : List ℕ → List ℕ → List ℕ → ℕ → Sides
+sides first second codes field = record { first = first; second = second; codes = codes; field = field }
+
+abbrev pub sides_in : Entries → Sides
+sides_in e = sides e.policies.first.now e.policies.second.now e.codes.now e.field
+
+abbrev pub count : Sides → ℕ
+count E = length E.codes
 
 -- The entry k is on a side; the word of its action; it holds the values.
-unfoldable pub on_at : List ℕ → ℕ → Bool → ℕ → Bool
-on_at es n s k = cond (ltb k n) (on_side s (get_or es k 0)) true
+unfoldable pub on_at : List ℕ → Bool → ℕ → Bool
+on_at es s k = cond (ltb k (length es)) (on_side s (get_or es k 0)) true
 
 unfoldable pub action_at : Sides → ℕ → ℕ
-action_at E k = cond (ltb k E.count) (code_action E.first E.second (get_or E.codes k 0)) 0
+action_at E k = cond (ltb k (count E)) (code_action E.first E.second (get_or E.codes k 0)) 0
 
 unfoldable pub holds_at : Sides → List ℕ → ℕ → Bool
-holds_at E us k = cond (ltb k E.count) (code_holds E.first E.second E.field (get_or E.codes k 0) us) true
+holds_at E us k = cond (ltb k (count E)) (code_holds E.first E.second E.field (get_or E.codes k 0) us) true
 
 abbrev pub on : Sides → Bool → ℕ → Bool
-on E s k = on_at E.codes E.count s k
+on E s k = on_at E.codes s k
 
 -- The place of the first entry, of n from i on, for which the test is true; i + n where there is none.
 unfoldable pub first_of : (ℕ → Bool) → ℕ → ℕ → ℕ
@@ -93,15 +108,15 @@ EntryCommon E k bs bs' = (us : List ℕ) → InBox E.field bs us → holds_at E 
 unfoldable pub Earlier : Bool → ℕ → ℕ → ℕ → Type 0
 Earlier s d e j = (on_side (not s) e ≡ true) ⊎ ((j < d) × (on_side s e ≡ true))
 
--- Each of the first n numbers of a list is the code of an entry before k that is on the other side, or before d on its own.
+-- Each of the numbers of a list is the code of an entry before k that is on the other side, or before d on its own.
 pub record Listed (es : List ℕ) (s : Bool) (d k e : ℕ) : Type 0 where
   pub place : ℕ
   pub below : place < k
   pub code : e ≡ get_or es place 0
   pub earlier : Earlier s d e place
 
-unfoldable pub Before : List ℕ → Bool → ℕ → ℕ → List ℕ → ℕ → Type 0
-Before es s d k list n = (i : ℕ) → i < n → Listed es s d k (get_or list i 0)
+unfoldable pub Before : List ℕ → Bool → ℕ → ℕ → List ℕ → Type 0
+Before es s d k list = (i : ℕ) → i < length list → Listed es s d k (get_or list i 0)
 
 -- In the box some entry before d or before k holds the values.
 unfoldable pub Hidden : Sides → Bool → ℕ → ℕ → List ℕ → Type 0
@@ -115,11 +130,11 @@ unfoldable pub Ended : Sides → Bool → ℕ → ℕ → List ℕ → Type 0
 Ended E s d k bs = (j : ℕ) → k ≤ j → Passed E s d j bs
 
 unfoldable pub Peace : Sides → Bool → ℕ → ℕ → ℕ → List ℕ → Type 0
-Peace E s d from to bs = (k : ℕ) → from ≤ k → k < to → k ≤ E.count → Passed E s d k bs
+Peace E s d from to bs = (k : ℕ) → from ≤ k → k < to → k ≤ count E → Passed E s d k bs
 
 -- In the box d clashes with no entry behind it.
 abbrev pub Harmless : Sides → Bool → ℕ → List ℕ → Type 0
-Harmless E s d bs = Peace E s d (suc d) (suc E.count) bs
+Harmless E s d bs = Peace E s d (suc d) (suc (count E)) bs
 
 -- So it is for the entry d if it is on one side only.
 unfoldable pub SameSides : Sides → ℕ → List ℕ → Type 0
@@ -127,7 +142,7 @@ SameSides E d bs = (s : Bool) → on E s d ≡ true → on E (not s) d ≡ false
 
 -- The action of the first entry on a side that holds the values; and the two sides have the same one throughout the box.
 abbrev pub side_action : Sides → Bool → List ℕ → ℕ
-side_action E s us = action_at E (first_of (λ k. cond (on E s k) (holds_at E us k) false) 0 E.count)
+side_action E s us = action_at E (first_of (λ k. cond (on E s k) (holds_at E us k) false) 0 (count E))
 
 unfoldable pub Agreed : Sides → List ℕ → Type 0
 Agreed E bs = (us : List ℕ) → InBox E.field bs us → side_action E false us ≡ side_action E true us

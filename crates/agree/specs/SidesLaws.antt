@@ -1,67 +1,65 @@
 -- Laws of two sides: what a test of an entry says, and that sides agree where no entry of one of them clashes. Assumes nothing.
-use Rattle.std.specs.Prelude.{ℕ, zero, suc, ◌+◌, ◌/◌, ◌%◌, ◌≤◌, ◌<◌, ◌≡◌, Bool, not, cond, List, ◌≢◌, ◌⊎◌, eqb, length, get_or, set}
-use Rattle.std.proofs.Common.{arith, sym, ◌∙◌, ⊎_elim, get_or-set_other, lt-ltb, le-ltb, eqb-true}
+use Rattle.std.specs.Prelude.{ℕ, zero, suc, ◌+◌, ◌/◌, ◌%◌, ◌≤◌, ◌<◌, ◌≡◌, Bool, not, cond, List, [], ◌∷◌, ◌++◌, ◌≢◌, length, get_or, Option, Some, None}
+use Rattle.std.proofs.Common.{arith, sym, ◌∙◌, ⊎_elim, lt-ltb, le-ltb, eqb-true}
 use Rattle.std.proofs.Math.Decide.{dec_lt, ℕ_discrete}
 use Rattle.std.proofs.Math.Nat.{div-div-eq-div-mul}
 use Rattle.std.proofs.Math.Path.{refl}
 use Rattle.std.proofs.Math.Bool.{true, false, false≢true}
 use Rattle.std.proofs.Math.Logic.{inl, inr}
-use Rattle.std.proofs.Math.Seq.{get_or-set_same}
+use Rattle.std.proofs.Math.ListN.{get_or-append}
+use Rattle.std.proofs.Math.Seq.{get_or-append_seam}
+use Rattle.std.proofs.lemmas.List.{length-append}
 use Rattle.std.proofs.lemmas.Bool.{eqb-false}
 use Rattle.cover.specs.Boxes.{ranges_word, InBox, row_of, table_of, code_holds, Common, Apart, Covers, Covered}
-use Rattle.agree.specs.Sides.{on_side, code_action, Sides, sides, on_at, action_at, holds_at, on, first_of, Unseen, EntryApart, EntryCovers, EntryCommon, Earlier, Listed, Before, Hidden, Passed, Ended, Peace, Harmless, SameSides, Agreed}
+use Rattle.agree.specs.declared.sides.Side.{Side}
+use Rattle.agree.specs.declared.sides.Side.TheVariants.{First, Second}
+use Rattle.agree.specs.Sides.{is_second, side_of, on_side, code_action, Sides, count, on_at, action_at, holds_at, on, first_of, Unseen, EntryApart, EntryCovers, EntryCommon, Earlier, Listed, Before, Hidden, Passed, Ended, Peace, Harmless, SameSides, Agreed}
 
 -- The side, the action and the ranges of an entry are those of its code; the end row is on both sides, discards and holds everything.
-module _ (es : List ℕ) (n : ℕ) (s : Bool) (k : ℕ) where
-  pub on-entry : k < n → on_at es n s k ≡ on_side s (get_or es k 0)
+module _ (es : List ℕ) (s : Bool) (k : ℕ) where
+  pub on-entry : k < length es → on_at es s k ≡ on_side s (get_or es k 0)
   unfolding on_at
-  on-entry h = rw (lt-ltb k n h)
+  on-entry h = rw (lt-ltb k (length es) h)
 
-  pub on_end : n ≤ k → on_at es n s k ≡ true
+  pub on_end : length es ≤ k → on_at es s k ≡ true
   unfolding on_at
-  on_end h = rw (le-ltb k n h)
+  on_end h = rw (le-ltb k (length es) h)
 
 module _ (E : Sides) (k : ℕ) where
-  pub action_entry : k < E.count → action_at E k ≡ code_action E.first E.second (get_or E.codes k 0)
+  pub action_entry : k < count E → action_at E k ≡ code_action E.first E.second (get_or E.codes k 0)
   unfolding action_at
-  action_entry h = rw (lt-ltb k E.count h)
+  action_entry h = rw (lt-ltb k (count E) h)
 
-  pub action_end : E.count ≤ k → action_at E k ≡ 0
+  pub action_end : count E ≤ k → action_at E k ≡ 0
   unfolding action_at
-  action_end h = rw (le-ltb k E.count h)
+  action_end h = rw (le-ltb k (count E) h)
 
-  holds_entry : (us : List ℕ) → k < E.count → holds_at E us k ≡ code_holds E.first E.second E.field (get_or E.codes k 0) us
+  holds_entry : (us : List ℕ) → k < count E → holds_at E us k ≡ code_holds E.first E.second E.field (get_or E.codes k 0) us
   unfolding holds_at
-  holds_entry us h = rw (lt-ltb k E.count h)
+  holds_entry us h = rw (lt-ltb k (count E) h)
 
-  holds_end : (us : List ℕ) → E.count ≤ k → holds_at E us k ≡ true
+  holds_end : (us : List ℕ) → count E ≤ k → holds_at E us k ≡ true
   unfolding holds_at
-  holds_end us h = rw (le-ltb k E.count h)
-
--- Whether two actions are the same does not depend on the field.
-pub action_same : (first second es : List ℕ) (n f k d x a : ℕ) → x ≡ action_at (sides first second es n 0) k → x ≡ a → a ≡ action_at (sides first second es n 0) d
-    → action_at (sides first second es n f) k ≡ action_at (sides first second es n f) d
-unfolding action_at
-action_same first second es n f k d x a p q r = sym p ∙ q ∙ r
+  holds_end us h = rw (le-ltb k (count E) h)
 
 -- How an entry stands to a box is how the row of its code does.
 module _ (E : Sides) (k : ℕ) (bs : List ℕ) where
   abbrev code : ℕ
   code = get_or E.codes k 0
 
-  pub apart_entry : k < E.count → Apart (table_of E.first E.second code) (ranges_word (row_of code)) E.field bs → EntryApart E k bs
+  pub apart_entry : k < count E → Apart (table_of E.first E.second code) (ranges_word (row_of code)) E.field bs → EntryApart E k bs
   unfolding Apart EntryApart
   apart_entry h t us i = holds_entry E k us h ∙ t us i
 
-  pub covers_entry : k < E.count → Covers (table_of E.first E.second code) (ranges_word (row_of code)) E.field bs → EntryCovers E k bs
+  pub covers_entry : k < count E → Covers (table_of E.first E.second code) (ranges_word (row_of code)) E.field bs → EntryCovers E k bs
   unfolding Covers EntryCovers
   covers_entry h t us i = holds_entry E k us h ∙ t us i
 
-  pub covers_end : E.count ≤ k → EntryCovers E k bs
+  pub covers_end : count E ≤ k → EntryCovers E k bs
   unfolding EntryCovers
   covers_end h us i = holds_end E k us h
 
-  pub common_entry : (bs' : List ℕ) → k < E.count → Common (table_of E.first E.second code) (ranges_word (row_of code)) E.field bs bs' → EntryCommon E k bs bs'
+  pub common_entry : (bs' : List ℕ) → k < count E → Common (table_of E.first E.second code) (ranges_word (row_of code)) E.field bs bs' → EntryCommon E k bs bs'
   unfolding Common EntryCommon
   common_entry bs' h t us i e = t us i (sym (holds_entry E k us h) ∙ e)
 
@@ -74,25 +72,24 @@ module _ (es : List ℕ) (s : Bool) (d : ℕ) (list : List ℕ) where
   listed_later : (k j e : ℕ) → k ≤ j → Listed es s d k e → Listed es s d j e
   listed_later k j e h l = record { place = l.place; below = omega (arith, l.below); code = l.code; earlier = l.earlier }
 
-  pub before_none : Before es s d 0 list 0
+  pub before_none : Before es s d 0 []
   unfolding Before
   before_none i h = absurd (omega arith)
 
-  module _ (j n : ℕ) (t : Before es s d j list n) where
-    before_passed : (e : ℕ) → Before es s d (j + 1) (set list n e) n
+  module _ (j : ℕ) (t : Before es s d j list) where
+    pub before_passed : Before es s d (j + 1) list
     unfolding Before
-    before_passed e i h = rw (get_or-set_other list n i e 0 (λ q. omega arith)) (listed_later j (j + 1) _ (omega arith) (t i h))
+    before_passed i h = listed_later j (j + 1) _ (omega arith) (t i h)
 
-    before_more : n < length list → Earlier s d (get_or es j 0) j → Before es s d (j + 1) (set list n (get_or es j 0)) (n + 1)
+    pub before_more : Earlier s d (get_or es j 0) j → Before es s d (j + 1) (list ++ get_or es j 0 ∷ [])
     unfolding Before
-    before_more q r i h = by (ℕ_discrete i n)
+    before_more r i h = by (dec_lt i (length list))
       where
-        by : Dec (i ≡ n) → Listed es s d (j + 1) (get_or (set list n (get_or es j 0)) i 0)
-        by (yes m) = rw (m, get_or-set_same list n (get_or es j 0) 0 q) record { place = j; below = omega arith; code = refl; earlier = r }
-        by (no m) = rw (get_or-set_other list n i (get_or es j 0) 0 m) (listed_later j (j + 1) _ (omega arith) (t i (omega (arith, m))))
-
-    pub before-next : n < length list → (n' : ℕ) → (Earlier s d (get_or es j 0) j × (n' ≡ n + 1)) ⊎ (n' ≡ n) → Before es s d (j + 1) (set list n (get_or es j 0)) n'
-    before-next q n' o = ⊎_elim (λ w. rw w.1 (before_more q w.0)) (λ w. rw w (before_passed (get_or es j 0))) o
+        by : Dec (i < length list) → Listed es s d (j + 1) (get_or (list ++ get_or es j 0 ∷ []) i 0)
+        by (yes m) = rw (get_or-append list (get_or es j 0 ∷ []) 0 i m) (before_passed i m)
+        by (no m) =
+            let e : i ≡ length list = omega (arith, length-append list (get_or es j 0 ∷ [])) in
+            rw (e, get_or-append_seam list (get_or es j 0) [] 0) record { place = j; below = omega arith; code = refl; earlier = r }
 
 -- A code that comes before on its own side, or is on the other.
 module _ (s : Bool) (d e j : ℕ) where
@@ -106,15 +103,15 @@ module _ (s : Bool) (d e j : ℕ) where
 
 -- What may come before an entry and another in a box, and what the two are to each other there.
 module _ (E : Sides) (s : Bool) (d : ℕ) (bs : List ℕ) where
-  pub listed_hide : (k : ℕ) (list : List ℕ) (n : ℕ) → k ≤ E.count → Before E.codes s d k list n → Covered E.first E.second list n E.field bs → Hidden E s d k bs
+  pub listed_hide : (k : ℕ) (list : List ℕ) → k ≤ count E → Before E.codes s d k list → Covered E.first E.second list E.field bs → Hidden E s d k bs
   unfolding Before Covered Hidden Unseen Earlier
-  listed_hide k list n g b t us i u = t us i (λ m h. miss (get_or list m 0) (b m h))
+  listed_hide k list g b t us i u = t us i (λ m h. miss (get_or list m 0) (b m h))
     where
       missed : (e : ℕ) (l : Listed E.codes s d k e) → holds_at E us l.place ≡ false → code_holds E.first E.second E.field e us ≡ false
       missed e l h = rw l.code (sym (holds_entry E l.place us (omega (arith, l.below))) ∙ h)
 
       side : (e : ℕ) (l : Listed E.codes s d k e) (r : Bool) → on_side r e ≡ true → on E r l.place ≡ true
-      side e l r h = on-entry E.codes E.count r l.place (omega (arith, l.below)) ∙ (rw l.code at h)
+      side e l r h = on-entry E.codes r l.place (omega (arith, l.below)) ∙ (rw l.code at h)
 
       miss : (e : ℕ) → Listed E.codes s d k e → code_holds E.first E.second E.field e us ≡ false
       miss e l =
@@ -192,7 +189,7 @@ module _ (E : Sides) (s : Bool) (d : ℕ) (bs : List ℕ) where
         by (yes m) = p j l m c
         by (no m) = r j (omega arith) h c
 
-    pub peace_end : E.count < k → Peace E s d from (suc E.count) bs
+    pub peace_end : count E < k → Peace E s d from (suc (count E)) bs
     unfolding Peace
     peace_end h j l g c = p j l (omega arith) c
 
@@ -207,46 +204,47 @@ module _ (E : Sides) (s : Bool) (d : ℕ) (bs : List ℕ) where
 
 -- The side of a code that is on one side only.
 module _ (e : ℕ) where
-  pub lone_first : e % 4 ≡ 1 → (s : Bool) → on_side s e ≡ true → on_side (not s) e ≡ false → ◌≡◌ {A = ℕ} 1 (cond s 2 1)
+  pub lone_first : e % 4 ≡ 1 → (s : Bool) → on_side s e ≡ true → on_side (not s) e ≡ false → Some First ≡ Some (side_of s)
   lone_first h true p q = absurd (omega (arith, eqb-true (e / 2 % 2) 1 p))
   lone_first h false p q = refl
 
-  pub lone_second : e % 4 ≡ 2 → (s : Bool) → on_side s e ≡ true → on_side (not s) e ≡ false → ◌≡◌ {A = ℕ} 2 (cond s 2 1)
+  pub lone_second : e % 4 ≡ 2 → (s : Bool) → on_side s e ≡ true → on_side (not s) e ≡ false → Some Second ≡ Some (side_of s)
   lone_second h true p q = refl
   lone_second h false p q = absurd (omega (arith, eqb-true (e % 2) 1 p))
 
-  pub lone_none : e % 4 ≢ 1 → e % 4 ≢ 2 → (s : Bool) → on_side s e ≡ true → on_side (not s) e ≡ false → ◌≡◌ {A = ℕ} 0 (cond s 2 1)
+  pub lone_none : e % 4 ≢ 1 → e % 4 ≢ 2 → (s : Bool) → on_side s e ≡ true → on_side (not s) e ≡ false → None ≡ Some (side_of s)
   lone_none h g true p q = absurd (omega (arith, h, g, eqb-true (e / 2 % 2) 1 p, eqb-false (e % 2) 1 q, div-div-eq-div-mul e 2 2))
   lone_none h g false p q = absurd (omega (arith, h, g, eqb-true (e % 2) 1 p, eqb-false (e / 2 % 2) 1 q, div-div-eq-div-mul e 2 2))
 
 -- An entry is on one side only: the one that is named, or none.
-module _ (E : Sides) (d : ℕ) (bs : List ℕ) (h : d < E.count) (r : ℕ)
-    (t : (s : Bool) → on_side s (get_or E.codes d 0) ≡ true → on_side (not s) (get_or E.codes d 0) ≡ false → r ≡ cond s 2 1) where
-  lone_side : (s : Bool) → on E s d ≡ true → on E (not s) d ≡ false → r ≡ cond s 2 1
-  lone_side s p q = t s (sym (on-entry E.codes E.count s d h) ∙ p) (sym (on-entry E.codes E.count (not s) d h) ∙ q)
+module _ (E : Sides) (d : ℕ) (bs : List ℕ) (h : d < count E) (r : Option Side)
+    (t : (s : Bool) → on_side s (get_or E.codes d 0) ≡ true → on_side (not s) (get_or E.codes d 0) ≡ false → r ≡ Some (side_of s)) where
+  lone_side : (s : Bool) → on E s d ≡ true → on E (not s) d ≡ false → r ≡ Some (side_of s)
+  lone_side s p q = t s (sym (on-entry E.codes s d h) ∙ p) (sym (on-entry E.codes (not s) d h) ∙ q)
 
-  pub same_none : r ≡ 0 → SameSides E d bs
+  pub same_none : r ≡ None → SameSides E d bs
   unfolding SameSides
-  same_none z true p q = absurd (omega (arith, lone_side true p q))
-  same_none z false p q = absurd (omega (arith, lone_side false p q))
+  same_none z s p q = absurd (let e = lone_side s p q in cc)
 
-  pub same_lone : Harmless E (eqb r 2) d bs → SameSides E d bs
+  pub same_lone : (side : Side) → r ≡ Some side → Harmless E (is_second side) d bs → SameSides E d bs
   unfolding SameSides
-  same_lone g true p q = rw (lone_side true p q) at g
-  same_lone g false p q = rw (lone_side false p q) at g
+  same_lone First z g true p q = absurd (let e : First ≡ Second = let l = lone_side true p q in cc in cc)
+  same_lone First z g false p q = g
+  same_lone Second z g true p q = g
+  same_lone Second z g false p q = absurd (let e : Second ≡ First = let l = lone_side false p q in cc in cc)
 
 -- The first place of n from i on at which a test is true.
-record First (p : ℕ → Bool) (i n k : ℕ) : Type 0 where
+record Foremost (p : ℕ → Bool) (i n k : ℕ) : Type 0 where
   within : k ≤ i + n
   none : (j : ℕ) → i ≤ j → j < k → p j ≡ false
   found : k < i + n → p k ≡ true
 
-first-of : (p : ℕ → Bool) (i n : ℕ) → First p i n (first_of p i n)
+first-of : (p : ℕ → Bool) (i n : ℕ) → Foremost p i n (first_of p i n)
 unfolding first_of
 first-of p i zero = record { within = omega arith; none = λ j l h. absurd (omega arith); found = λ h. absurd (omega arith) }
 first-of p i (suc n) = by (p i) refl (first_of p (suc i) n) (first-of p (suc i) n)
   where
-    by : (b : Bool) → p i ≡ b → (k : ℕ) → First p (suc i) n k → First p i (suc n) (cond (p i) i k)
+    by : (b : Bool) → p i ≡ b → (k : ℕ) → Foremost p (suc i) n k → Foremost p i (suc n) (cond (p i) i k)
     by true e k r = rw e record { within = omega arith; none = λ j l h. absurd (omega arith); found = λ h. e }
     by false e k r = rw e record { within = omega (arith, r.within); none = λ j l h. at j l h (ℕ_discrete j i); found = λ h. r.found (omega arith) }
       where
@@ -268,22 +266,22 @@ module _ (E : Sides) (us : List ℕ) where
   sees s k = cond (on E s k) (holds_at E us k) false
 
   abbrev first_on : Bool → ℕ
-  first_on s = first_of (sees s) 0 E.count
+  first_on s = first_of (sees s) 0 (count E)
 
-  first_within : (s : Bool) → first_on s ≤ E.count
-  first_within s = omega (arith, (first-of (sees s) 0 E.count).within)
+  first_within : (s : Bool) → first_on s ≤ count E
+  first_within s = omega (arith, (first-of (sees s) 0 (count E)).within)
 
   none_before : (s : Bool) (j : ℕ) → j < first_on s → on E s j ≡ true → holds_at E us j ≡ false
-  none_before s j h o = seen_false (on E s j) (holds_at E us j) ((first-of (sees s) 0 E.count).none j (omega arith) h) o
+  none_before s j h o = seen_false (on E s j) (holds_at E us j) ((first-of (sees s) 0 (count E)).none j (omega arith) h) o
 
   first_seen : (s : Bool) → (on E s (first_on s) ≡ true) × (holds_at E us (first_on s) ≡ true)
-  first_seen s = by (dec_lt (first_on s) E.count)
+  first_seen s = by (dec_lt (first_on s) (count E))
     where
-      by : Dec (first_on s < E.count) → (on E s (first_on s) ≡ true) × (holds_at E us (first_on s) ≡ true)
-      by (yes h) = seen_true (on E s (first_on s)) (holds_at E us (first_on s)) ((first-of (sees s) 0 E.count).found (omega arith))
-      by (no h) = (on_end E.codes E.count s (first_on s) (omega arith), holds_end E (first_on s) us (omega arith))
+      by : Dec (first_on s < count E) → (on E s (first_on s) ≡ true) × (holds_at E us (first_on s) ≡ true)
+      by (yes h) = seen_true (on E s (first_on s)) (holds_at E us (first_on s)) ((first-of (sees s) 0 (count E)).found (omega arith))
+      by (no h) = (on_end E.codes s (first_on s) (omega arith), holds_end E (first_on s) us (omega arith))
 
-  module _ (bs : List ℕ) (i : InBox E.field bs us) (t : (d : ℕ) → d < E.count → SameSides E d bs) where
+  module _ (bs : List ℕ) (i : InBox E.field bs us) (t : (d : ℕ) → d < count E → SameSides E d bs) where
     -- The first of one side is before that of the other: then it is not on the other side, and does not clash.
     one-before : (s : Bool) → first_on s < first_on (not s) → action_at E (first_on (not s)) ≡ action_at E (first_on s)
     unfolding SameSides Peace Passed Unseen
@@ -310,6 +308,6 @@ module _ (E : Sides) (us : List ℕ) where
         by (no h) (yes g) = one-before true g
         by (no h) (no g) = let e : first_on false ≡ first_on true = omega arith in rw e
 
-pub sides_agree : (E : Sides) (bs : List ℕ) → ((d : ℕ) → d < E.count → SameSides E d bs) → Agreed E bs
+pub sides_agree : (E : Sides) (bs : List ℕ) → ((d : ℕ) → d < count E → SameSides E d bs) → Agreed E bs
 unfolding Agreed
 sides_agree E bs t us i = same_action E us bs i t

@@ -1,276 +1,157 @@
 // Whether the two sides of a list of entries give the same action throughout a box: each entry that is on one side only is asked about.
-ghost use Rattle.std.specs.Prelude.{◌≡◌, Bool, true, false, not, cond, suc, ◌*◌, ◌≤◌, ◌<◌, length};
-ghost use Rattle.policy.specs.Words.{row_limit};
-ghost use Rattle.agree.specs.Sides.{on_side, sides, action_at, Earlier, Before, Hidden, Passed, Ended, Peace, Harmless, Agreed};
+ghost use Rattle.std.specs.Prelude.{◌≡◌, Bool, true, false, not, suc, ◌≤◌, ◌<◌, [], length, MatchOption, Some};
+ghost use Rattle.agree.specs.Sides.{is_second, side_of, sides_in, on_side, action_at, Earlier, Before, Hidden, Passed, Ended, Peace, Harmless, Agreed};
+ghost use Rattle.agree.specs.declared.sides.Step.TheVariants.{Past, End};
 
-use crate::Asked;
-use crate::entries::{entry_action, entry_apart, entry_common, entry_covers, entry_on, on};
-use cover::{Bounds, Known, MOST, apart_from, covered};
-use selectors::words::RANGES_WORDS;
+use crate::entries::on;
+use crate::sides::{Asked, Entries, Side, Step};
+use arrayvec::ArrayVec;
+use cover::{Bounds, MOST, apart_from, covered};
 
 // How many parts of boxes one test looks at before the answer is not known.
 const PARTS: usize = 30000;
 
-// What `step` answers.
-const PASSED: u64 = 0;
-
-const CONFLICT: u64 = 1;
-
-const ENDED: u64 = 2;
-
-const FIRST: u64 = 1;
-
-const SECOND: u64 = 2;
+// The side of an entry that is on one side only.
+fn lone(code: u32) -> Option<Side>
+    ensures { (s : Bool) → on_side s code ≡ true → on_side (not s) code ≡ false → result ≡ Some (side_of s) }
+{
+    match code % 4 {
+        1 => Some(Side::First),
+        2 => Some(Side::Second),
+        _ => None,
+    }
+}
 
 // Whether an entry comes before the row asked about on its side, or is on the other side.
 fn comes_first(code: u32, asked: Asked, j: usize) -> bool
-    ensures { result ≡ true → Earlier asked.second asked.row code j }
+    ensures { result ≡ true → Earlier (is_second asked.side) asked.row code j }
 {
-    if on(code, !asked.second) {
+    if on(code, asked.side.other()) {
         return true;
     }
     if asked.row <= j {
         return false;
     }
-    on(code, asked.second)
+    on(code, asked.side)
 }
 
-// Lists what may be first in the box before the row asked about and before the entry k: the entries of its side before it, and those of the
-// other side before k; and counts them. Those that are apart from the box are left out.
-fn before(
-    first: &[u64],
-    second: &[u64],
-    entries: &[u32],
-    asked: Asked,
-    k: usize,
-    bounds: &[u64; RANGES_WORDS],
-    list: &mut [u32; MOST],
-) -> usize
-    requires k_le_count { (k ≤ length entries.now) × (length entries.now ≤ 2 * row_limit) }
-    requires list_len { length list.old ≡ 2 * row_limit }
-    ensures { Before entries.now asked.second asked.row k list.new result }
-{
-    let field = asked.field;
-    let mut count: usize = 0;
-    let mut j: usize = 0;
-    while j < k {
-        let code = entries[j];
-        list[count] = code;
-        if comes_first(code, asked, j) {
-            if !apart_from(first, second, code, field, bounds) {
-                count += 1;
+impl Entries<'_> {
+    // Lists what may be first in the box before the row asked about and before the entry k: the entries of its side before it, and those of
+    // the other side before k. Those that are apart from the box are left out.
+    fn before(&self, asked: Asked, k: usize, bounds: &Bounds, list: &mut ArrayVec<u32, MOST>)
+        requires { (k ≤ length self.now.codes.now) × (list.old.items ≡ []) }
+        ensures { Before self.now.codes.now (is_second asked.side) asked.row k list.new.items }
+    {
+        for j in 0..k {
+            let code = self.codes[j];
+            if comes_first(code, asked, j)
+                && !apart_from(&self.policies, code, self.field, bounds)
+            {
+                list.push(code);
             }
         }
-        j += 1;
     }
-    count
-}
 
-// Whether entries before the row asked about and before the entry k cover the box, so that these two are not both first there.
-fn hidden(
-    first: &[u64],
-    second: &[u64],
-    entries: &[u32],
-    asked: Asked,
-    k: usize,
-    bounds: Bounds,
-    parts: usize,
-) -> Known
-    requires { (k ≤ length entries.now) × (length entries.now ≤ 2 * row_limit) }
-    ensures { (result.left ≤ parts) × (result.yes ≡ true → Hidden (sides first.now second.now entries.now (length entries.now) asked.field) asked.second asked.row k bounds.words) }
-{
-    let mut list = [0u32; MOST];
-    let words = bounds.words;
-    let count = before(first, second, entries, asked, k, &words, &mut list);
-    covered(first, second, &list, count, asked.field, bounds, parts)
-}
-
-// What the entry k is to the row asked about in the box: no matter; a conflict, on the other side with another action; or the end, an entry
-// of the other side with the same action that covers the box, so that none behind it is first there.
-fn step(
-    first: &[u64],
-    second: &[u64],
-    entries: &[u32],
-    asked: Asked,
-    action: u64,
-    k: usize,
-    bounds: &[u64; RANGES_WORDS],
-) -> u64
-    requires count_bound { length entries.now ≤ 2 * row_limit }
-    requires action_value { action ≡ action_at (sides first.now second.now entries.now (length entries.now) 0) asked.row }
-    ensures upper_bound { result ≤ 2 }
-    ensures passed { result ≡ 0 → Passed (sides first.now second.now entries.now (length entries.now) asked.field) asked.second asked.row k bounds.now }
-    ensures ended { result ≡ 2 → Ended (sides first.now second.now entries.now (length entries.now) asked.field) asked.second asked.row k bounds.now }
-{
-    let count = entries.len();
-    if !entry_on(entries, k, !asked.second) {
-        return PASSED;
+    // Whether entries before the row asked about and before the entry k cover the box, so that these two are not both first there. Of parts of
+    // boxes it may look at `left`, as those below may.
+    fn hidden(&self, asked: Asked, k: usize, bounds: &Bounds, left: &mut usize) -> bool
+        requires { k ≤ length self.now.codes.now }
+        ensures { result ≡ true → Hidden (sides_in self.now) (is_second asked.side) asked.row k bounds.now.words }
+    {
+        let mut list = ArrayVec::new();
+        self.before(asked, k, bounds, &mut list);
+        covered(&self.policies, &list, self.field, bounds, left)
     }
-    let field = asked.field;
-    if entry_action(first, second, entries, k) == action {
-        if entry_covers(first, second, entries, k, field, bounds) {
-            return ENDED;
+
+    fn step(&self, asked: Asked, action: u64, k: usize, bounds: &Bounds) -> Step
+        requires { action ≡ action_at (sides_in self.now) asked.row }
+        ensures past { result ≡ Past → Passed (sides_in self.now) (is_second asked.side) asked.row k bounds.now.words }
+        ensures end { result ≡ End → Ended (sides_in self.now) (is_second asked.side) asked.row k bounds.now.words }
+    {
+        if !self.on(k, asked.side.other()) {
+            return Step::Past;
         }
-        return PASSED;
-    }
-    if entry_apart(first, second, entries, k, field, bounds) {
-        return PASSED;
-    }
-    CONFLICT
-}
-
-// The next entry from `from` on that is a conflict, the end row among them; past the end row, if there is none.
-fn conflict(
-    first: &[u64],
-    second: &[u64],
-    entries: &[u32],
-    asked: Asked,
-    from: usize,
-    bounds: &[u64; RANGES_WORDS],
-) -> usize
-    requires { length entries.now ≤ 2 * row_limit }
-    ensures { (from ≤ result) × Peace (sides first.now second.now entries.now (length entries.now) asked.field) asked.second asked.row from result bounds.now }
-{
-    let count = entries.len();
-    let action = entry_action(first, second, entries, asked.row);
-    let mut k = from;
-    while k <= count {
-        let found = step(first, second, entries, asked, action, k, bounds);
-        if found == CONFLICT {
-            return k;
+        if self.action(k) == action {
+            if self.cover(k, bounds) {
+                return Step::End;
+            }
+            return Step::Past;
         }
-        if found == ENDED {
-            return count + 1;
+        if self.apart(k, bounds) {
+            return Step::Past;
         }
-        k += 1;
+        Step::Conflict
     }
-    k
-}
 
-// The next conflict behind the entry k; past the end row, if there is none, or if k is on the other side and covers the box.
-fn after(
-    first: &[u64],
-    second: &[u64],
-    entries: &[u32],
-    asked: Asked,
-    k: usize,
-    bounds: &[u64; RANGES_WORDS],
-) -> usize
-    requires { (k ≤ length entries.now) × (length entries.now ≤ 2 * row_limit) }
-    ensures { (suc k ≤ result) × Peace (sides first.now second.now entries.now (length entries.now) asked.field) asked.second asked.row (suc k) result bounds.now }
-{
-    let count = entries.len();
-    if entry_on(entries, k, !asked.second) {
-        if entry_covers(first, second, entries, k, asked.field, bounds) {
-            return count + 1;
+    // The next entry from `from` on that is a conflict, the end row among them.
+    fn conflict(&self, asked: Asked, from: usize, bounds: &Bounds) -> Option<usize>
+        ensures { MatchOption result (Peace (sides_in self.now) (is_second asked.side) asked.row from (suc (length self.now.codes.now)) bounds.now.words) (λ k. (from ≤ k) × ((k ≤ length self.now.codes.now) × Peace (sides_in self.now) (is_second asked.side) asked.row from k bounds.now.words)) }
+    {
+        let action = self.action(asked.row);
+        for k in from..self.codes.len() + 1 {
+            match self.step(asked, action, k, bounds) {
+                Step::Past => {}
+                Step::Conflict => return Some(k),
+                Step::End => return None,
+            }
         }
+        None
     }
-    conflict(first, second, entries, asked, k + 1, bounds)
-}
 
-// Whether the conflicts of the row asked about, from the entry `from` on, are never seen in the box: entries before cover what they share.
-fn conflicts_hidden(
-    first: &[u64],
-    second: &[u64],
-    entries: &[u32],
-    asked: Asked,
-    from: usize,
-    bounds: Bounds,
-    parts: usize,
-) -> Known
-    requires { length entries.now ≤ 2 * row_limit }
-    ensures { (result.left ≤ parts) × (result.yes ≡ true → Peace (sides first.now second.now entries.now (length entries.now) asked.field) asked.second asked.row from (suc (length entries.now)) bounds.words) }
-{
-    let count = entries.len();
-    let field = asked.field;
-    let words = bounds.words;
-    let mut left = parts;
-    let mut k = from;
-    while k <= count {
-        let shared = entry_common(first, second, entries, k, field, bounds);
-        let known = hidden(first, second, entries, asked, k, shared, left);
-        left = known.left;
-        if !known.yes {
-            return known;
+    // The next conflict behind the entry k. There is none if k is on the other side and covers the box.
+    fn after(&self, asked: Asked, k: usize, bounds: &Bounds) -> Option<usize>
+        requires { k ≤ length self.now.codes.now }
+        ensures { MatchOption result (Peace (sides_in self.now) (is_second asked.side) asked.row (suc k) (suc (length self.now.codes.now)) bounds.now.words) (λ n. (suc k ≤ n) × ((n ≤ length self.now.codes.now) × Peace (sides_in self.now) (is_second asked.side) asked.row (suc k) n bounds.now.words)) }
+    {
+        if self.on(k, asked.side.other()) && self.cover(k, bounds) {
+            return None;
         }
-        k = after(first, second, entries, asked, k, &words);
+        self.conflict(asked, k + 1, bounds)
     }
-    Known { yes: true, left }
-}
 
-// Whether the row asked about makes no difference in the box: it has no conflicts there, or entries before it cover it, or no conflict is
-// seen.
-fn harmless(
-    first: &[u64],
-    second: &[u64],
-    entries: &[u32],
-    asked: Asked,
-    bounds: Bounds,
-    parts: usize,
-) -> Known
-    requires { (asked.row < length entries.now) × (length entries.now ≤ 2 * row_limit) }
-    ensures { (result.left ≤ parts) × (result.yes ≡ true → Harmless (sides first.now second.now entries.now (length entries.now) asked.field) asked.second asked.row bounds.words) }
-{
-    let count = entries.len();
-    let row = asked.row;
-    let own = entry_common(first, second, entries, row, asked.field, bounds);
-    let words = own.words;
-    let k = conflict(first, second, entries, asked, row + 1, &words);
-    if count < k {
-        return Known {
-            yes: true,
-            left: parts,
-        };
-    }
-    let known = hidden(first, second, entries, asked, row, own, parts);
-    if known.yes {
-        return known;
-    }
-    conflicts_hidden(first, second, entries, asked, k, own, known.left)
-}
-
-// The side of an entry that is on one side only: 1 the first, 2 the second; 0 for any other.
-fn lone(code: u32) -> u64
-    ensures { (s : Bool) → on_side s code ≡ true → on_side (not s) code ≡ false → result ≡ cond s 2 1 }
-{
-    let sides = code % 4;
-    if sides == 1 {
-        return FIRST;
-    }
-    if sides == 2 {
-        return SECOND;
-    }
-    0
-}
-
-// THE TEST: whether the rows of the two sides give the same action throughout the box.
-pub(crate) fn agreed(
-    first: &[u64],
-    second: &[u64],
-    entries: &[u32],
-    field: usize,
-    bounds: Bounds,
-) -> bool
-    requires { length entries.now ≤ 2 * row_limit }
-    ensures { result ≡ true → Agreed (sides first.now second.now entries.now (length entries.now) field) bounds.words }
-{
-    let mut left = PARTS;
-    let mut row: usize = 0;
-    while row < entries.len() {
-        let side = lone(entries[row]);
-        if 0 < side {
-            let asked = Asked {
-                field,
-                second: side == SECOND,
-                row,
-            };
-            let known = harmless(first, second, entries, asked, bounds, left);
-            if !known.yes {
+    // Whether the conflicts of the row asked about, from the entry `from` on, are never seen in the box: entries before cover what they share.
+    fn conflicts_hidden(&self, asked: Asked, from: usize, bounds: &Bounds, left: &mut usize) -> bool
+        requires { from ≤ length self.now.codes.now }
+        ensures { result ≡ true → Peace (sides_in self.now) (is_second asked.side) asked.row from (suc (length self.now.codes.now)) bounds.now.words }
+    {
+        let mut k = from;
+        loop {
+            let shared = self.common(k, bounds);
+            if !self.hidden(asked, k, &shared, left) {
                 return false;
             }
-            left = known.left;
+            let Some(next) = self.after(asked, k, bounds) else {
+                return true;
+            };
+            k = next;
         }
-        row += 1;
     }
-    true
+
+    // Whether the row asked about makes no difference in the box: it has no conflicts there, or entries before it cover it, or no conflict is
+    // seen.
+    fn harmless(&self, asked: Asked, bounds: &Bounds, left: &mut usize) -> bool
+        requires { asked.row < length self.now.codes.now }
+        ensures { result ≡ true → Harmless (sides_in self.now) (is_second asked.side) asked.row bounds.now.words }
+    {
+        let own = self.common(asked.row, bounds);
+        let Some(k) = self.conflict(asked, asked.row + 1, &own) else {
+            return true;
+        };
+        self.hidden(asked, asked.row, &own, left) || self.conflicts_hidden(asked, k, &own, left)
+    }
+
+    // THE TEST: whether the rows of the two sides give the same action throughout the box.
+    pub(crate) fn agreed(&self, bounds: &Bounds) -> bool
+        ensures { result ≡ true → Agreed (sides_in self.now) bounds.now.words }
+    {
+        let mut left = PARTS;
+        for row in 0..self.codes.len() {
+            if let Some(side) = lone(self.codes[row]) {
+                if !self.harmless(Asked { side, row }, bounds, &mut left) {
+                    return false;
+                }
+            }
+        }
+        true
+    }
 }

@@ -5,6 +5,7 @@ mod agreement;
 mod cuts;
 mod entries;
 mod merging;
+mod sides;
 
 ghost use Rattle.std.specs.Prelude.{◌≡◌, true, ◌+◌, ◌≤◌, ◌<◌, length, filter};
 ghost use Rattle.selectors.specs.Range.{contains};
@@ -13,30 +14,14 @@ ghost use Rattle.selectors.specs.Words.{field_count};
 ghost use Rattle.policy.specs.Words.{row_limit};
 ghost use Rattle.agree.specs.Sides.{range_of, Alike, Cutting};
 
-use crate::agreement::agreed;
 use crate::cuts::{acting, cutting_among};
 use crate::merging::{cut_entries, merge, there};
+use crate::sides::Entries;
 use arrayvec::ArrayVec;
-use cover::{Bounds, MOST};
+use cover::{Bounds, MOST, Policies};
 use policy::LIMIT;
 use selectors::Value;
 use selectors::words::FIELDS;
-
-// One of the two lists that are compared.
-#[derive(Clone, Copy, PartialEq, Eq)]
-enum Side {
-    First,
-    Second,
-}
-
-// What is asked: whether the entry `row`, which is on one side only (the second, or else the first), makes a difference among the
-// entries, in the fields from `field` on. Behind the entries is the end row, which is on both sides, holds everything and discards.
-#[derive(Clone, Copy)]
-struct Asked {
-    field: usize,
-    second: bool,
-    row: usize,
-}
 
 // Whether two lists of rows, each in its order, give the same action throughout a box, in the fields from `field` on: yes, or not known.
 pub fn agree(
@@ -55,9 +40,14 @@ pub fn agree(
     if !there(second, of_second) {
         return false;
     }
-    let mut entries = ArrayVec::<u32, MOST>::new();
-    merge(first, of_first, second, of_second, &mut entries);
-    agreed(first, second, &entries, field, bounds)
+    let mut codes = ArrayVec::<u32, MOST>::new();
+    merge(first, of_first, second, of_second, &mut codes);
+    let entries = Entries {
+        policies: Policies { first, second },
+        codes: &codes,
+        field,
+    };
+    entries.agreed(&bounds)
 }
 
 // Whether the rows of a list give the same action behind two values of a field, throughout a box of the fields behind it: yes, or not known.
@@ -80,9 +70,17 @@ pub fn same_behind(
     if !there(rows, list) {
         return false;
     }
-    let mut entries = ArrayVec::<u32, MOST>::new();
-    cut_entries(rows, list, field, one, other, &mut entries);
-    agreed(rows, rows, &entries, field + 1, bounds)
+    let mut codes = ArrayVec::<u32, MOST>::new();
+    cut_entries(rows, list, field, one, other, &mut codes);
+    let entries = Entries {
+        policies: Policies {
+            first: rows,
+            second: rows,
+        },
+        codes: &codes,
+        field: field + 1,
+    };
+    entries.agreed(&bounds)
 }
 
 // Lists those rows of a list that may part two values of a field: all but rows that discard and that no row which acts otherwise meets in the

@@ -6,19 +6,19 @@ ghost use Rattle.selectors.specs.Words.{field_count};
 ghost use Rattle.policy.specs.Words.{row_words, row_limit};
 ghost use Rattle.agree.specs.Sides.{There, sides_of, SideRows, Next, row_behind, range_of};
 
-use crate::Side;
+use crate::sides::Side;
 use arrayvec::ArrayVec;
 use cover::{MOST, wide};
 use policy::{HEAD_WORDS, LIMIT, ROW_WORDS};
+use selectors::Value;
 use selectors::words::{RANGE_WORDS, ends_at};
-use selectors::{AddressRange, Value};
 
-// The numbers of an entry's sides: 1 for the first and 2 for the second, and 4 for a row of the second policy.
+// What a code has beside its row: 1 for the first side, 2 for the second, 4 for a row of the second policy.
 const FIRST: u32 = 1;
 
-const BOTH: u32 = 3;
+const SECOND: u32 = 2;
 
-const SECOND_ROW: u32 = 6;
+const IN_SECOND: u32 = 4;
 
 // Whether the places of a list are those of rows that are there, at most as many as the limit.
 pub(crate) fn there(rows: &[u64], list: &[u16]) -> bool
@@ -42,20 +42,15 @@ fn sides_of(rows: &[u64], row: u16, field: usize, one: Value, other: Value) -> u
     ensures { result ≡ sides_of (range_of rows.now row field) (number one) (number other) }
 {
     let at = wide(row) * ROW_WORDS + HEAD_WORDS + RANGE_WORDS * field;
-    let ends = ends_at(rows, at);
-    let low = ends.low;
-    let high = ends.high;
-    let range = AddressRange { low, high };
-    if range.holds(one) {
-        if range.holds(other) {
-            return 3;
-        }
-        return 1;
+    let range = ends_at(rows, at);
+    let mut sides = 0;
+    if range.hold(one) {
+        sides += FIRST;
     }
-    if range.holds(other) {
-        return 2;
+    if range.hold(other) {
+        sides += SECOND;
     }
-    0
+    sides
 }
 
 // The code of a row of a policy with its sides, and 4 more for the second policy.
@@ -166,11 +161,11 @@ pub(crate) fn merge(
                 i += 1;
             }
             Some(Side::Second) => {
-                entries.push(coded(of_second[j], SECOND_ROW));
+                entries.push(coded(of_second[j], SECOND + IN_SECOND));
                 j += 1;
             }
             None => {
-                entries.push(coded(of_first[i], BOTH));
+                entries.push(coded(of_first[i], FIRST + SECOND));
                 i += 1;
                 j += 1;
             }

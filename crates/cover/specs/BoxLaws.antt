@@ -1,5 +1,8 @@
 -- Laws of boxes: how a row stands to one, its parts, and what it has in common with a row. Assumes nothing.
 use Rattle.std.specs.Prelude.{◌≡◌, ℕ, zero, suc, ◌+◌, ◌-◌, ◌*◌, ◌<◌, ◌≤◌, Bool, true, false, not, ◌≢◌, ◌⊎◌, List, [], ◌∷◌, length, nat_lt, slice_index, slice_index_or, refl}
+use Rattle.std.specs.Bool.{MatchBool}
+use Rattle.std.specs.List.{range_with_len, AllWithin, HoldsAt}
+use Rattle.std.proofs.lemmas.List.FromFn.{get_or-range_with_len, length-range_with_len}
 use native.Mathlib.Omega.{arith}
 use Rattle.std.proofs.Math.Decide.{dec_lt, ℕ_discrete}
 use Rattle.std.proofs.Math.Nat.{add-zero}
@@ -11,10 +14,13 @@ use Rattle.selectors.specs.Range.{Range, range, contains, holds}
 use Rattle.selectors.proofs.RangeLaws.{both_true, contains_in, contains_below, contains_above, contains_between}
 use Rattle.selectors.specs.Value.{number}
 use Rattle.selectors.specs.Words.{field_count, range_words, ranges_words, value_at, ends_at, range_at}
-use Rattle.selectors.specs.declared.Ends.{Ends}
-use Rattle.cover.specs.Boxes.{ranges_word, ranges_behind, InBox, row_of, table_of, code_holds, Lowered, Raised, Part, Common, Apart, Covers, RowsApart, RangeApart, RangeCovers, FieldStand, BoxStand, Covered, Surveyed}
+use Rattle.selectors.specs.Ranges.{ends_range}
+use Rattle.selectors.specs.declared.ranges.Ends.{Ends}
+use Rattle.cover.specs.Boxes.{ranges_word, ranges_behind, InBox, row_of, table_of, code_holds, Lowered, Raised, Narrowed, Part, Common, Apart, Covers, RowsApart, RangeApart, RangeCovers, FieldStand, BoxStand, Covered, Surveyed}
 use Rattle.cover.specs.RangesLaws.{ranges-length, range-of, written, value_own, value_other}
-use Rattle.cover.specs.declared.Stand.{Stand}
+use Rattle.cover.specs.declared.standing.Cut.{Cut}
+use Rattle.cover.specs.declared.standing.Stand.{Stand}
+use Rattle.cover.specs.declared.standing.Stand.TheVariants.{Outside, Covering, Across, Unknown}
 
 -- Ranges hold values where each one holds its own.
 holds-length : (rs : List Range) (us : List ℕ) → holds rs us ≡ true → length us ≡ length rs
@@ -89,20 +95,16 @@ module _ (row box : Range) where
   pub range_covers : row.low ≤ box.low → box.high ≤ row.high → RangeCovers row box
   range_covers p q v i = contains_in row v (omega (arith, contains_between box v i)) (omega (arith, contains_between box v i))
 
--- In one field: apart, with an end inside, or as before.
-module _ (s r : Stand) (row box : Range) where
-  pub field_apart : r.covers ≡ false → RangeApart row box → FieldStand s row box r
-  field_apart c t = record { apart = λ e. t; one = λ e. c; covers = λ e. absurd (false≢true (sym c ∙ e)) }
+-- In one field: outside, across, or as before.
+module _ (s : Stand) (row box : Range) where
+  pub field_outside : RangeApart row box → FieldStand s row box Outside
+  field_outside t = record { apart = λ e. t; covers = λ e. absurd cc }
 
-  pub field_cut : r.apart ≡ false → r.covers ≡ false → FieldStand s row box r
-  field_cut a c = record { apart = λ e. absurd (false≢true (sym a ∙ e)); one = λ e. c; covers = λ e. absurd (false≢true (sym c ∙ e)) }
+  pub field_across : (cut : Cut) → FieldStand s row box (Across cut)
+  field_across cut = record { apart = λ e. absurd cc; covers = λ e. absurd cc }
 
-pub field_covered : (s : Stand) (row box : Range) → s.apart ≡ false → RangeCovers row box → FieldStand s row box s
-field_covered s row box a t = record {
-  apart = λ e. absurd (false≢true (sym a ∙ e));
-  one = λ e. absurd (false≢true (sym a ∙ e));
-  covers = λ e. (e, t);
-}
+  pub field_covered : s ≢ Outside → RangeCovers row box → FieldStand s row box s
+  field_covered n t = record { apart = λ e. absurd (n e); covers = λ e. (e, t) }
 
 -- The row holds the box's values in each of the fields from f on and before n.
 unfoldable pub CoversTo : List ℕ → ℕ → ℕ → List ℕ → ℕ → Type 0
@@ -130,15 +132,36 @@ module _ (ws : List ℕ) (at f : ℕ) (bs : List ℕ) where
   unfolding CoversTo Covers
   covers_all n q t us i = fields_hold ws at f us (box-length bs f us i) (λ g l h. t g l (omega arith) (slice_index us (g - f)) (box_held bs f us i g l h))
 
-  pub box_apart : (n : ℕ) (s r : Stand) → f ≤ n → n < field_count → r.apart ≡ true → FieldStand s (range_at ws (at + range_words * n)) (range_at bs (range_words * n)) r
+  pub box_outside : (n : ℕ) (s r : Stand) → f ≤ n → n < field_count → r ≡ Outside → FieldStand s (range_at ws (at + range_words * n)) (range_at bs (range_words * n)) r
       → BoxStand ws at f bs r
-  box_apart n s r l h a t = record { apart = λ e. field_parts n l h (t.apart e); covers = λ e. absurd (false≢true (sym (t.one a) ∙ e)) }
+  box_outside n s r l h a t = record { apart = λ e. field_parts n l h (t.apart e); covers = λ e. absurd cc }
 
-  pub box_covered : (s : Stand) → s.apart ≡ false → (s.covers ≡ true → Covers ws at f bs) → BoxStand ws at f bs s
-  box_covered s a t = record { apart = λ e. absurd (false≢true (sym a ∙ e)); covers = t }
+  pub box_covered : (s : Stand) → s ≢ Outside → (s ≡ Covering → Covers ws at f bs) → BoxStand ws at f bs s
+  box_covered s n t = record { apart = λ e. absurd (n e); covers = t }
 
-  pub box_unknown : (s : Stand) → s.apart ≡ false → s.covers ≡ false → BoxStand ws at f bs s
-  box_unknown s a c = box_covered s a (λ e. absurd (false≢true (sym c ∙ e)))
+  pub box_unknown : BoxStand ws at f bs Unknown
+  box_unknown = record { apart = λ e. absurd cc; covers = λ e. absurd cc }
+
+  pub covers_each : ((g : ℕ) → f ≤ g → g < field_count → RangeCovers (range_at ws (at + range_words * g)) (range_at bs (range_words * g))) → Covers ws at f bs
+  unfolding Covers
+  covers_each t us i = fields_hold ws at f us (box-length bs f us i) (λ g l h. t g l h (slice_index us (g - f)) (box_held bs f us i g l h))
+
+-- What is true in some field from f on; and in all of them.
+module _ (f : ℕ) (P : ℕ → Type 0) where
+  abbrev fields : List ℕ
+  fields = range_with_len f (field_count - f)
+
+  pub any_field : (r : Bool) (No : Type 0) → MatchBool r ((k : ℕ) × (k < length fields) × HoldsAt P fields k) No → r ≡ true → (g : ℕ) × (f ≤ g) × (g < field_count) × P g
+  any_field true No m e =
+      let h : m.0 < field_count - f = rw (length-range_with_len f (field_count - f)) at m.1 in
+      (f + m.0, omega arith, omega arith, rw (get_or-range_with_len f (field_count - f) m.0 0 h) at (m.2 0))
+  any_field false No m e = absurd (false≢true e)
+
+  pub all_fields : (r : Bool) (No : Type 0) → MatchBool r (AllWithin P fields 0 (length fields)) No → r ≡ true → (g : ℕ) → f ≤ g → g < field_count → P g
+  all_fields true No m e g l h =
+      let k : f + (g - f) ≡ g = omega arith in
+      rw (get_or-range_with_len f (field_count - f) (g - f) 0 (omega arith), k) at (m (g - f) 0 (omega arith) (rw (length-range_with_len f (field_count - f)) (omega arith)))
+  all_fields false No m e g l h = absurd (false≢true e)
 
 -- Two rows are apart where their ranges of one field are.
 pub rows_part : (ws : List ℕ) (a b f n : ℕ) → f ≤ n → n < field_count → RangeApart (range_at ws (ranges_word a + range_words * n)) (range_at ws (ranges_word b + range_words * n)) → RowsApart ws a b f
@@ -191,6 +214,11 @@ module _ (g n : ℕ) (bs : List ℕ) where
   unfolding Lowered
   lowered_none f us i l = i
 
+pub narrowed : (g : ℕ) (r : Range) (bs above bs' : List ℕ) → Raised g r.low bs above → Lowered g r.high above bs' → Narrowed g r bs bs'
+unfolding Raised Lowered Narrowed
+narrowed g r bs above bs' s t f us i e =
+    let b = contains_between r (slice_index us (g - f)) e in t f us (s f us i b.0) b.1
+
 -- The parts on the two sides of a value.
 module _ (g at : ℕ) (bs bs' : List ℕ) where
   pub part_upper : Raised g at bs bs' → Part g at true bs bs'
@@ -207,12 +235,10 @@ module _ (ws : List ℕ) (at f : ℕ) (bs : List ℕ) where
   unfolding Common
   common_none us i e = i
 
-  pub common_more : (g : ℕ) (row : Ends) (bs' above bs'' : List ℕ) → f ≤ g → g < field_count → row ≡ ends_at ws (at + range_words * g)
-      → Common ws at f bs bs' → Raised g (number row.low) bs' above → Lowered g (number row.high) above bs'' → Common ws at f bs bs''
-  unfolding Common Raised Lowered
-  common_more g row bs' above bs'' l h p t r s us i e =
-      let b = contains_between _ _ (field_held ws at f us e g l h) in
-      s f us (r f us (t us i e) (rw p b.0)) (rw p b.1)
+  pub common_more : (g : ℕ) (row : Ends) (bs' bs'' : List ℕ) → f ≤ g → g < field_count → row ≡ ends_at ws (at + range_words * g)
+      → Common ws at f bs bs' → Narrowed g (ends_range row) bs' bs'' → Common ws at f bs bs''
+  unfolding Common Narrowed
+  common_more g row bs' bs'' l h p t n us i e = n f us (t us i e) (rw p (field_held ws at f us e g l h))
 
 -- A test has one of the two answers.
 one_side : (b u : Bool) → (b ≡ not u) ⊎ (b ≡ not (not u))
@@ -222,28 +248,28 @@ one_side false true = inl refl
 one_side false false = inr refl
 
 -- The listed rows cover a box that one of them covers; a survey says so.
-module _ (first second es : List ℕ) (n f : ℕ) (bs : List ℕ) where
-  pub surveyed-row : (k : ℕ) (s : Stand) → k < n → BoxStand (table_of first second (slice_index es k)) (ranges_word (row_of (slice_index es k))) f bs s → Surveyed first second es n f bs s
+module _ (first second es : List ℕ) (f : ℕ) (bs : List ℕ) where
+  pub surveyed-row : (k : ℕ) → k < length es → Covers (table_of first second (slice_index es k)) (ranges_word (row_of (slice_index es k))) f bs → Surveyed first second es f bs Covering
   unfolding Surveyed Covered Covers
-  surveyed-row k s h t c us i miss = false≢true (sym (miss k h) ∙ t.covers c us i)
+  surveyed-row k h t c us i miss = false≢true (sym (miss k h) ∙ t us i)
 
-  pub surveyed_none : (s : Stand) → s.covers ≡ false → Surveyed first second es n f bs s
+  pub surveyed_none : (s : Stand) → s ≢ Covering → Surveyed first second es f bs s
   unfolding Surveyed
-  surveyed_none s c e = absurd (false≢true (sym c ∙ e))
+  surveyed_none s n e = absurd (n e)
 
   -- What no listed row holds in the box is in the other one.
   unfoldable pub Rest : List ℕ → Type 0
-  Rest rest = (us : List ℕ) → InBox f bs us → ((k : ℕ) → k < n → code_holds first second f (slice_index es k) us ≡ false) → InBox f rest us
+  Rest rest = (us : List ℕ) → InBox f bs us → ((k : ℕ) → k < length es → code_holds first second f (slice_index es k) us ≡ false) → InBox f rest us
 
   pub rest_all : Rest bs
   unfolding Rest
   rest_all us i miss = i
 
-  pub rest_surveyed : (rest : List ℕ) (s : Stand) → Rest rest → Surveyed first second es n f rest s → s.covers ≡ true → Covered first second es n f bs
+  pub rest_surveyed : (rest : List ℕ) (s : Stand) → Rest rest → Surveyed first second es f rest s → s ≡ Covering → Covered first second es f bs
   unfolding Rest Surveyed Covered
   rest_surveyed rest s r t c us i miss = t c us (r us i miss) miss
 
-  pub rest_part : (rest near far : List ℕ) (g at : ℕ) (upper : Bool) → Rest rest → Part g at upper rest near → Covered first second es n f near → Part g at (not upper) rest far
+  pub rest_part : (rest near far : List ℕ) (g at : ℕ) (upper : Bool) → Rest rest → Part g at upper rest near → Covered first second es f near → Part g at (not upper) rest far
       → Rest far
   unfolding Rest Covered Part
   rest_part rest near far g at upper r p t q us i miss =

@@ -1,10 +1,11 @@
 -- Boxes of values, and the rows of two policies that cover them. Assumes nothing: these are definitions.
 -- A box is five ranges. In it and in rows, only the fields from a field f on count, and values are one for each of these.
-use Rattle.std.specs.Prelude.{◌≡◌, ℕ, ◌+◌, ◌-◌, ◌*◌, ◌/◌, ◌%◌, ◌<◌, ◌≤◌, Bool, true, false, cond, not, List, ◌==◌, ◌≢◌, nat_lt, slice_index}
+use Rattle.std.specs.Prelude.{◌≡◌, ℕ, ◌+◌, ◌-◌, ◌*◌, ◌/◌, ◌%◌, ◌<◌, ◌≤◌, Bool, true, false, cond, not, List, ◌==◌, ◌≢◌, nat_lt, length, slice_index}
 use Rattle.selectors.specs.Range.{Range, contains, holds}
-use Rattle.selectors.specs.Words.{field_count, ranges_from}
+use Rattle.selectors.specs.Words.{field_count, range_words, ends_at, ranges_from}
 use Rattle.policy.specs.Words.{head_words, row_words}
-use Rattle.cover.specs.declared.Stand.{Stand}
+use Rattle.cover.specs.declared.standing.Stand.{Stand}
+use Rattle.cover.specs.declared.standing.Stand.TheVariants.{Outside, Covering}
 
 -- The word at which the ranges of the row i begin: those of its direction and its action come first.
 abbrev pub ranges_word : ℕ → ℕ
@@ -33,12 +34,15 @@ table_of first second e = cond (in_second e) second first
 abbrev pub code_holds : List ℕ → List ℕ → ℕ → ℕ → List ℕ → Bool
 code_holds first second f e us = holds (ranges_behind (table_of first second e) (ranges_word (row_of e)) f) us
 
--- What is still in the box where the field g has no value above h, none below l, or none on the other side of a value.
+-- What is still in the box where the field g has no value above h, none below l, none outside of a range, or none on the other side of a value.
 unfoldable pub Lowered : ℕ → ℕ → List ℕ → List ℕ → Type 0
 Lowered g h bs bs' = (f : ℕ) (us : List ℕ) → InBox f bs us → slice_index us (g - f) ≤ h → InBox f bs' us
 
 unfoldable pub Raised : ℕ → ℕ → List ℕ → List ℕ → Type 0
 Raised g l bs bs' = (f : ℕ) (us : List ℕ) → InBox f bs us → l ≤ slice_index us (g - f) → InBox f bs' us
+
+unfoldable pub Narrowed : ℕ → Range → List ℕ → List ℕ → Type 0
+Narrowed g r bs bs' = (f : ℕ) (us : List ℕ) → InBox f bs us → contains r (slice_index us (g - f)) ≡ true → InBox f bs' us
 
 unfoldable pub Part : ℕ → ℕ → Bool → List ℕ → List ℕ → Type 0
 Part g at upper bs bs' = (f : ℕ) (us : List ℕ) → InBox f bs us → nat_lt (slice_index us (g - f)) at ≡ not upper → InBox f bs' us
@@ -66,22 +70,25 @@ RangeApart row box = (v : ℕ) → contains box v ≡ true → contains row v �
 abbrev pub RangeCovers : Range → Range → Type 0
 RangeCovers row box = (v : ℕ) → contains box v ≡ true → contains row v ≡ true
 
+-- Words are those of the ranges of the row i.
+abbrev pub HasRanges : List ℕ → ℕ → List ℕ → Type 0
+HasRanges ws i rs = (f : ℕ) → f < field_count → ends_at rs (range_words * f) ≡ ends_at ws (ranges_word i + range_words * f)
+
 -- What a stand says once a field is looked at: a range of the row and that of the box.
 pub record FieldStand (s : Stand) (row box : Range) (r : Stand) : Type 0 where
-  pub apart : r.apart ≡ true → RangeApart row box
-  pub one : r.apart ≡ true → r.covers ≡ false
-  pub covers : r.covers ≡ true → (s.covers ≡ true) × RangeCovers row box
+  pub apart : r ≡ Outside → RangeApart row box
+  pub covers : r ≡ Covering → (s ≡ Covering) × RangeCovers row box
 
 -- What it says of the ranges at a word.
 pub record BoxStand (ws : List ℕ) (at f : ℕ) (bs : List ℕ) (r : Stand) : Type 0 where
-  pub apart : r.apart ≡ true → Apart ws at f bs
-  pub covers : r.covers ≡ true → Covers ws at f bs
+  pub apart : r ≡ Outside → Apart ws at f bs
+  pub covers : r ≡ Covering → Covers ws at f bs
 
--- The first n rows of a list of codes cover the box: no value in it is one that none of them holds.
-unfoldable pub Covered : List ℕ → List ℕ → List ℕ → ℕ → ℕ → List ℕ → Type 0
-Covered first second es n f bs =
-    (us : List ℕ) → InBox f bs us → ((k : ℕ) → k < n → code_holds first second f (slice_index es k) us ≡ false) → ⊥
+-- The rows of a list of codes cover the box: no value in it is one that none of them holds.
+unfoldable pub Covered : List ℕ → List ℕ → List ℕ → ℕ → List ℕ → Type 0
+Covered first second es f bs =
+    (us : List ℕ) → InBox f bs us → ((k : ℕ) → k < length es → code_holds first second f (slice_index es k) us ≡ false) → ⊥
 
--- What a survey of the first n rows says: one of them covers the box.
-unfoldable pub Surveyed : List ℕ → List ℕ → List ℕ → ℕ → ℕ → List ℕ → Stand → Type 0
-Surveyed first second es n f bs s = s.covers ≡ true → Covered first second es n f bs
+-- What a survey of the rows says: one of them covers the box.
+unfoldable pub Surveyed : List ℕ → List ℕ → List ℕ → ℕ → List ℕ → Stand → Type 0
+Surveyed first second es f bs s = s ≡ Covering → Covered first second es f bs

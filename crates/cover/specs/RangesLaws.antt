@@ -73,6 +73,15 @@ ends_lent ws at n h =
     let high = end_moved ws (take n (drop at ws)) at 0 2 (at + 2) 2 (omega arith) (omega arith) (same 2 (omega arith)) (same 3 (omega arith)) in
     rw (low, high)
 
+-- Ranges whose words are lent as a part of their own.
+pub ends_within : (ws : List ℕ) (at n k : ℕ) → k + range_words ≤ n → ends_at (take n (drop at ws)) k ≡ ends_at ws (at + k)
+ends_within ws at n k h =
+    let same : (j : ℕ) → j < range_words → slice_index (take n (drop at ws)) (k + j) ≡ get_or ws (at + k + j) 0 =
+    λ j g. let e : at + (k + j) ≡ at + k + j = omega arith in get_or-take n (drop at ws) (k + j) 0 (omega arith) ∙ get_or-drop at ws (k + j) 0 ∙ ap (λ (i : ℕ). get_or ws i 0) e in
+    let low = end_moved ws (take n (drop at ws)) (at + k) k 0 (at + k) k (omega arith) (omega arith) (same 0 (omega arith)) (same 1 (omega arith)) in
+    let high = end_moved ws (take n (drop at ws)) (at + k) k 2 (at + k + 2) (k + 2) (omega arith) (omega arith) (same 2 (omega arith)) (same 3 (omega arith)) in
+    rw (low, high)
+
 -- A value that was written, and the other words and values.
 module _ (ws : List ℕ) (at n : ℕ) where
   abbrev pub written : List ℕ

@@ -1,90 +1,54 @@
 // Parts of a box: on one side of a value of a field, and what it shares with a row.
 ghost use Rattle.std.specs.Prelude.{◌≡◌, ◌<◌};
-ghost use Rattle.std.proofs.lemmas.List.Edits.{sets};
+ghost use Rattle.selectors.specs.Ranges.{ends_range};
 ghost use Rattle.selectors.specs.Value.{number};
-ghost use Rattle.selectors.specs.Words.{field_count, words_of_value};
-ghost use Rattle.cover.specs.Boxes.{row_of, ranges_word, Lowered, Raised, Part, Common};
+ghost use Rattle.selectors.specs.Words.{field_count};
+ghost use Rattle.cover.specs.Boxes.{row_of, table_of, ranges_word, Narrowed, Part, Common};
 
-use crate::Bounds;
-use crate::rows::ranges_word;
-use selectors::Value;
-use selectors::words::{
-    FIELDS, RANGE_WORDS, RANGES_WORDS, VALUE_WORDS, ends_at, put_value, value_at,
-};
+use crate::rows::{range_in, ranges_of};
+use crate::standing::Cut;
+use crate::{Bounds, Policies, row_of};
+use selectors::Ends;
+use selectors::words::{FIELDS, RANGE_WORDS, VALUE_WORDS, put_value};
 
-fn with_bound(bounds: Bounds, at: usize, value: Value) -> Bounds
-    ensures { result.words ≡ sets bounds.words at (words_of_value (number value)) }
-{
-    let mut words = bounds.words;
-    put_value(&mut words, at, value);
-    Bounds { words }
-}
-
-// The part of the box in which the field has values up to `high`.
-fn with_high(bounds: Bounds, field: usize, high: Value) -> Bounds
-    requires { field < field_count }
-    ensures { Lowered field (number high) bounds.words result.words }
-{
-    with_bound(bounds, RANGE_WORDS * field + VALUE_WORDS, high)
-}
-
-// The part of the box in which the field has values from `low` on.
-fn with_low(bounds: Bounds, field: usize, low: Value) -> Bounds
-    requires { field < field_count }
-    ensures { Raised field (number low) bounds.words result.words }
-{
-    with_bound(bounds, RANGE_WORDS * field, low)
-}
-
-// The part of the box below a value of a field, or from it on.
-pub(crate) fn part(bounds: Bounds, field: usize, at: Value, upper: bool) -> Bounds
-    requires { field < field_count }
-    ensures { Part field (number at) upper bounds.words result.words }
-{
-    if upper {
-        return with_low(bounds, field, at);
+impl Bounds {
+    // Keeps the part from the value of a cut on, or else the part below it.
+    pub(crate) fn keep_part(&mut self, cut: &Cut, upper: bool)
+        ensures { Part cut.now.field (number cut.now.at) upper self.old.words self.new.words }
+    {
+        let at = RANGE_WORDS * cut.field;
+        if upper {
+            put_value(&mut self.words, at, cut.at);
+        } else {
+            put_value(&mut self.words, at + VALUE_WORDS, cut.at.previous());
+        }
     }
-    with_high(bounds, field, at.previous())
+
+    // Leaves out the values of the field that are outside of a range, if there are any.
+    fn narrow(&mut self, field: usize, range: Ends)
+        requires { field < field_count }
+        ensures { Narrowed field (ends_range range) self.old.words self.new.words }
+    {
+        let at = RANGE_WORDS * field;
+        let own = range_in(&self.words, field);
+        if own.low < range.low {
+            put_value(&mut self.words, at, range.low);
+        }
+        if range.high < own.high {
+            put_value(&mut self.words, at + VALUE_WORDS, range.high);
+        }
+    }
 }
 
-// The box without the values of the field below `low`, if there are any; and without those above `high`.
-fn raised(bounds: Bounds, field: usize, low: Value) -> Bounds
-    requires { field < field_count }
-    ensures { Raised field (number low) bounds.words result.words }
+// A box that has all that a box and the row of a code have in common, in the fields from `field` on; if there is no such row, the box.
+pub fn common(policies: &Policies<'_>, code: u32, field: usize, bounds: &Bounds) -> Bounds
+    ensures { Common (table_of policies.now.first.now policies.now.second.now code) (ranges_word (row_of code)) field bounds.now.words result.words }
 {
-    let words = bounds.words;
-    if value_at(&words, RANGE_WORDS * field).less(low) {
-        return with_low(bounds, field, low);
-    }
-    bounds
-}
-
-fn lowered(bounds: Bounds, field: usize, high: Value) -> Bounds
-    requires { field < field_count }
-    ensures { Lowered field (number high) bounds.words result.words }
-{
-    let words = bounds.words;
-    if high.less(value_at(&words, RANGE_WORDS * field + VALUE_WORDS)) {
-        return with_high(bounds, field, high);
-    }
-    bounds
-}
-
-// What a box has in common with a code's row among these, in the fields from `field` on; if there is no such row, the box.
-pub(crate) fn common_in(rows: &[u64], code: u32, field: usize, bounds: Bounds) -> Bounds
-    ensures { Common rows.now (ranges_word (row_of code)) field bounds.words result.words }
-{
-    let base = ranges_word(code);
-    if rows.len() < base + RANGES_WORDS {
-        return bounds;
-    }
-    let mut shared = bounds;
-    let mut f = field;
-    while f < FIELDS {
-        let row = ends_at(rows, base + RANGE_WORDS * f);
-        let above = raised(shared, f, row.low);
-        shared = lowered(above, f, row.high);
-        f += 1;
+    let mut shared = *bounds;
+    if let Some(row) = ranges_of(policies.table_of(code), row_of(code)) {
+        for f in field..FIELDS {
+            shared.narrow(f, range_in(row, f));
+        }
     }
     shared
 }

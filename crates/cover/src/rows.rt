@@ -1,74 +1,44 @@
-// A row of a policy beside a box: by the ends of their ranges, field by field.
-ghost use Rattle.std.specs.Prelude.{◌≡◌, true};
+// The ranges of rows, and whether a row covers a box.
+ghost use Rattle.std.specs.Prelude.{◌≡◌, ◌<◌, ◌*◌, true, ℕ, IfSome};
 ghost use Rattle.selectors.specs.Ranges.{ends_range};
-ghost use Rattle.cover.specs.Boxes.{row_of, ranges_word, Apart, Covers, RangeApart, RangeCovers};
+ghost use Rattle.selectors.specs.Words.{field_count, range_words, ends_at};
+ghost use Rattle.cover.specs.Boxes.{row_of, table_of, ranges_word, HasRanges, Covers, RangeCovers};
 
-use crate::row_of;
+use crate::{Bounds, Policies, row_of};
 use policy::{HEAD_WORDS, ROW_WORDS};
 use selectors::Ends;
 use selectors::words::{FIELDS, RANGE_WORDS, RANGES_WORDS, ends_at};
 
-// The word at which the ranges of a code's row begin.
-pub(crate) fn ranges_word(code: u32) -> usize
-    ensures { result ≡ ranges_word (row_of code) }
+// The words of the ranges of a row, if it is there. That it is there is asked once, so that the tests of its ranges fall away.
+pub(crate) fn ranges_of(rows: &[u64], row: usize) -> Option<&[u64]>
+    requires { row < 4294967296 }
+    ensures { IfSome result (λ words. HasRanges rows.now row words.now) }
 {
-    row_of(code) * ROW_WORDS + HEAD_WORDS
+    let at = row * ROW_WORDS + HEAD_WORDS;
+    rows.get(at..at + RANGES_WORDS)
 }
 
-// Whether two ranges are apart: one ends before the other begins.
-pub(crate) fn ranges_apart(row: Ends, own: Ends) -> bool
-    ensures { result ≡ true → RangeApart (ends_range row) (ends_range own) }
+// The range of a field among the words of ranges.
+pub(crate) fn range_in(words: &[u64], field: usize) -> Ends
+    requires { field < field_count }
+    ensures { result ≡ ends_at words.now (range_words * field) }
 {
-    if row.high.less(own.low) {
-        return true;
-    }
-    own.high.less(row.low)
+    ends_at(words, RANGE_WORDS * field)
 }
 
 // Whether a range has all the values of another one.
 fn range_covers(row: Ends, own: Ends) -> bool
     ensures { result ≡ true → RangeCovers (ends_range row) (ends_range own) }
 {
-    if own.low.less(row.low) {
-        return false;
-    }
-    !row.high.less(own.high)
+    row.low <= own.low && own.high <= row.high
 }
 
-// Whether a code's row among these is known to be apart from a box, in the fields from `field` on.
-pub(crate) fn apart_in(rows: &[u64], code: u32, field: usize, bounds: &[u64; RANGES_WORDS]) -> bool
-    ensures { result ≡ true → Apart rows.now (ranges_word (row_of code)) field bounds.now }
+// Whether the row of a code is known to cover a box, in the fields from `field` on. Of rows that are not there nothing is known.
+pub fn covers(policies: &Policies<'_>, code: u32, field: usize, bounds: &Bounds) -> bool
+    ensures { result ≡ true → Covers (table_of policies.now.first.now policies.now.second.now code) (ranges_word (row_of code)) field bounds.now.words }
 {
-    let base = ranges_word(code);
-    if rows.len() < base + RANGES_WORDS {
+    let Some(row) = ranges_of(policies.table_of(code), row_of(code)) else {
         return false;
-    }
-    let mut f = field;
-    while f < FIELDS {
-        let row = ends_at(rows, base + RANGE_WORDS * f);
-        if ranges_apart(row, ends_at(bounds, RANGE_WORDS * f)) {
-            return true;
-        }
-        f += 1;
-    }
-    false
-}
-
-// Whether it covers the box, in the fields from `field` on.
-pub(crate) fn covers_in(rows: &[u64], code: u32, field: usize, bounds: &[u64; RANGES_WORDS]) -> bool
-    ensures { result ≡ true → Covers rows.now (ranges_word (row_of code)) field bounds.now }
-{
-    let base = ranges_word(code);
-    if rows.len() < base + RANGES_WORDS {
-        return false;
-    }
-    let mut f = field;
-    while f < FIELDS {
-        let row = ends_at(rows, base + RANGE_WORDS * f);
-        if !range_covers(row, ends_at(bounds, RANGE_WORDS * f)) {
-            return false;
-        }
-        f += 1;
-    }
-    true
+    };
+    (field..FIELDS).all(|f| range_covers(range_in(row, f), range_in(&bounds.words, f)))
 }

@@ -1,18 +1,15 @@
 -- Laws of decoding. Assumes nothing.
 use Prim.Native.Nat.{ℕ, zero, suc, ◌+◌, ◌-◌, ◌*◌, ◌/◌, ◌≤◌, ◌<◌}
 use native.Mathlib.Omega.{arith}
-use Rattle.std.specs.Prelude.{◌≡◌, Bool, true, false, ◌↔◌, List, ◌∷◌, ◌++◌, eqb, length, get_or}
+use Rattle.std.specs.Prelude.{◌≡◌, Bool, true, false, ◌↔◌, List, ◌∷◌, ◌++◌, length, get_or, take, drop, []}
 use Rattle.std.proofs.Math.Path.{refl, sym, ap}
-use Rattle.std.proofs.Common.{◌∙◌, eq-eqb}
+use Rattle.std.proofs.Common.{◌∙◌, get_or-take, get_or-drop, drop-cons}
 use Rattle.std.proofs.lemmas.Bool.{false≢true}
-use Rattle.selectors.proofs.HeldLaws.{ranges-next, all_ranges, all_values}
-use Rattle.selectors.specs.Range.{Range, same_range}
-use Rattle.selectors.proofs.RangeLaws.{same_range_true}
+use Rattle.selectors.proofs.HeldLaws.{all_ranges, all_values}
 use Rattle.selectors.specs.Value.{number, combination}
-use Rattle.selectors.specs.Words.{field_count, range_words, ends_at, range_at, ranges_from, values_from, selectors_in}
-use Rattle.selectors.proofs.WordsLaws.{selectors_values}
+use Rattle.selectors.specs.Words.{field_count, range_words, values_from, selectors_in, words_of_ranges}
+use Rattle.selectors.proofs.WordsLaws.{AllWords, ranges_exact, selectors_values}
 use Rattle.selectors.specs.declared.Direction.{Direction}
-use Rattle.selectors.specs.declared.Ends.{Ends}
 use Rattle.selectors.specs.declared.Selectors.{Selectors}
 use Rattle.normal_form.specs.Search.{row}
 use Rattle.policy.specs.Policy.{matches, ordered_search, match_from}
@@ -76,20 +73,6 @@ unfolding part_rows
 rows-length f n ws i zero = refl
 rows-length f n ws i (suc c) = ap suc (rows-length f n ws (i + 1) c)
 
--- Two ranges of four words by their ends: the same if the low ends are and the high ends are.
-module _ (ws : List ℕ) (a b : ℕ) (own other : Ends) (e : own ≡ ends_at ws a) (e' : other ≡ ends_at ws b) where
-  pub ranges_low : eqb (number own.low) (number other.low) ≡ false → same_range (range_at ws a) (range_at ws b) ≡ false
-  unfolding same_range
-  ranges_low h = rw (rw (e, e') at h)
-
-  pub ranges_high : eqb (number own.low) (number other.low) ≡ true → eqb (number own.high) (number other.high) ≡ same_range (range_at ws a) (range_at ws b)
-  unfolding same_range
-  ranges_high h = rw (rw (e, e') at h, e, e')
-
-same_range_refl : (r : Range) → same_range r r ≡ true
-unfolding same_range
-same_range_refl r = rw (eq-eqb r.low r.low refl, eq-eqb r.high r.high refl)
-
 -- A test that comes out one way or the other.
 pub always : {P : Type 0} → P → (true ≡ true) ↔ P
 always p = (λ e. p, λ q. refl)
@@ -101,38 +84,52 @@ never n = (λ e. absurd (false≢true e), λ p. absurd (n p))
 cons_same : {A : Type 0} (x y : A) (xs ys : List A) → x ≡ y → (x ∷ xs ≡ y ∷ ys) ↔ (xs ≡ ys)
 cons_same x y xs ys e = (λ h. cc, λ h. cc)
 
--- The ranges of two rows from a field on, one field at a time.
-module _ (ws : List ℕ) (a b f : ℕ) where
-  pub same_ranges_go : f < field_count → same_range (range_of ws a f) (range_of ws b f) ≡ true
-      → (row_ranges ws a f (field_count - f) ≡ row_ranges ws b f (field_count - f)) ↔ (row_ranges ws a (f + 1) (field_count - (f + 1)) ≡ row_ranges ws b (f + 1) (field_count - (f + 1)))
-  same_ranges_go h e = rw (ranges-next ws (ranges_word a) f field_count h, ranges-next ws (ranges_word b) f field_count h) (cons_same _ _ _ _ (same_range_true _ _ e))
+-- Two words, and the words of parts that are the same.
+two_words : (ws : List ℕ) (i : ℕ) → i + 2 ≤ length ws → take 2 (drop i ws) ≡ get_or ws i 0 ∷ get_or ws (i + 1) 0 ∷ []
+two_words ws i h =
+    let e0 : suc i ≡ i + 1 = omega arith in
+    let d0 : drop i ws ≡ get_or ws i 0 ∷ drop (i + 1) ws = rw e0 at (drop-cons ws i 0 (omega arith)) in
+    let d1 : drop (i + 1) ws ≡ get_or ws (i + 1) 0 ∷ drop (suc (i + 1)) ws = drop-cons ws (i + 1) 0 (omega arith) in
+    ap (λ (l : List ℕ). take 2 l) (d0 ∙ ap (λ (l : List ℕ). get_or ws i 0 ∷ l) d1)
 
-  pub same_ranges_stop : f < field_count → same_range (range_of ws a f) (range_of ws b f) ≡ false → row_ranges ws a f (field_count - f) ≡ row_ranges ws b f (field_count - f) → ⊥
-  same_ranges_stop h e p =
-      let q : range_of ws a f ∷ row_ranges ws a (f + 1) (field_count - (f + 1)) ≡ range_of ws b f ∷ row_ranges ws b (f + 1) (field_count - (f + 1)) =
-      sym (ranges-next ws (ranges_word a) f field_count h) ∙ p ∙ ranges-next ws (ranges_word b) f field_count h in
-      let r : range_of ws a f ≡ range_of ws b f = cc in
-      false≢true (sym e ∙ rw r (same_range_refl (range_of ws b f)))
+part_word : (ws : List ℕ) (i j m k : ℕ) → take m (drop i ws) ≡ take m (drop j ws) → k < m → get_or ws (i + k) 0 ≡ get_or ws (j + k) 0
+part_word ws i j m k e h =
+    sym (get_or-take m (drop i ws) k 0 h ∙ get_or-drop i ws k 0)
+    ∙ ap (λ (l : List ℕ). get_or l k 0) e
+    ∙ get_or-take m (drop j ws) k 0 h
+    ∙ get_or-drop j ws k 0
 
-  pub same_ranges_end : field_count ≤ f → row_ranges ws a f (field_count - f) ≡ row_ranges ws b f (field_count - f)
-  unfolding ranges_from
-  same_ranges_end h = let e : field_count - f ≡ zero = omega arith in rw e
-
--- Two rows are the same where their first two words are and their ranges are.
-module _ (f n : ℕ) (ws : List ℕ) (a b : ℕ) where
-  pub same-row_first : (get_or ws (a * row_words) 0 ≡ get_or ws (b * row_words) 0 → ⊥) → part_row f n ws a ≡ part_row f n ws b → ⊥
+-- Two rows are the same from a field on where their first two words are and those of the fields.
+module _ (f : ℕ) (h : f ≤ field_count) (ws : List ℕ) (a b : ℕ) where
+  pub same-row_heads : a * row_words + row_words ≤ length ws → b * row_words + row_words ≤ length ws
+      → part_row f (field_count - f) ws a ≡ part_row f (field_count - f) ws b → take 2 (drop (a * row_words) ws) ≡ take 2 (drop (b * row_words) ws)
   unfolding part_row
-  same-row_first d e = d (λ i. (e i).leaf.second)
+  same-row_heads p q e =
+      let first : get_or ws (a * row_words) 0 ≡ get_or ws (b * row_words) 0 = λ i. (e i).leaf.second in
+      let second : get_or ws (a * row_words + 1) 0 ≡ get_or ws (b * row_words + 1) 0 = λ i. (e i).leaf.first in
+      rw (two_words ws (a * row_words) (omega arith), two_words ws (b * row_words) (omega arith), first, second)
 
-  pub same-row_second : (get_or ws (a * row_words + 1) 0 ≡ get_or ws (b * row_words + 1) 0 → ⊥) → part_row f n ws a ≡ part_row f n ws b → ⊥
+  pub same-row_fields : AllWords ws → a * row_words + row_words ≤ length ws → b * row_words + row_words ≤ length ws
+      → part_row f (field_count - f) ws a ≡ part_row f (field_count - f) ws b
+      → take (4 * (field_count - f)) (drop (ranges_word a + 4 * f) ws) ≡ take (4 * (field_count - f)) (drop (ranges_word b + 4 * f) ws)
   unfolding part_row
-  same-row_second d e = d (λ i. (e i).leaf.first)
+  same-row_fields fit p q e =
+      let ranges : row_ranges ws a f (field_count - f) ≡ row_ranges ws b f (field_count - f) = λ i. (e i).ranges in
+      sym (ranges_exact ws fit (ranges_word a) f (field_count - f) (omega arith))
+      ∙ ap words_of_ranges ranges
+      ∙ ranges_exact ws fit (ranges_word b) f (field_count - f) (omega arith)
 
-  pub same-row_ranges : (r : Bool) → get_or ws (a * row_words) 0 ≡ get_or ws (b * row_words) 0 → get_or ws (a * row_words + 1) 0 ≡ get_or ws (b * row_words + 1) 0
-      → (r ≡ true) ↔ (row_ranges ws a f n ≡ row_ranges ws b f n) → (r ≡ true) ↔ (part_row f n ws a ≡ part_row f n ws b)
-  unfolding part_row
-  same-row_ranges r p q s =
-      (λ t. let u = s.0 t in λ i. row (u i) (parting (q i) (p i)), λ t. s.1 (λ i. (t i).ranges))
+  pub same-row : take 2 (drop (a * row_words) ws) ≡ take 2 (drop (b * row_words) ws)
+      → take (4 * (field_count - f)) (drop (ranges_word a + 4 * f) ws) ≡ take (4 * (field_count - f)) (drop (ranges_word b + 4 * f) ws)
+      → part_row f (field_count - f) ws a ≡ part_row f (field_count - f) ws b
+  same-row p q =
+      row_moved ws ws b a f (field_count - f) (omega arith)
+      (part_word ws (a * row_words) (b * row_words) 2 0 p (omega arith))
+      (part_word ws (a * row_words) (b * row_words) 2 1 p (omega arith))
+      (λ k u v.
+      let e : ranges_word a + 4 * f + (k - (2 + 4 * f)) ≡ a * row_words + k = omega arith in
+      let e' : ranges_word b + 4 * f + (k - (2 + 4 * f)) ≡ b * row_words + k = omega arith in
+      rw (e, e') at (part_word ws (ranges_word a + 4 * f) (ranges_word b + 4 * f) (4 * (field_count - f)) (k - (2 + 4 * f)) q (omega arith)))
 
 -- Rows from two places on, one row at a time.
 module _ (f n : ℕ) (ws : List ℕ) (a b i c : ℕ) where

@@ -13,44 +13,16 @@ use policy::{HEAD_WORDS, ROW_WORDS};
 use selectors::words::{FIELDS, RANGE_WORDS, ends_at, put_ends};
 use selectors::{Ends, Value};
 
-fn same_range(words: &[u64], a: usize, b: usize) -> bool
-    ensures { result ≡ same_range (range_at words.now a) (range_at words.now b) }
-{
-    let own = ends_at(words, a);
-    let other = ends_at(words, b);
-    if !own.low.same(other.low) {
-        return false;
-    }
-    own.high.same(other.high)
-}
-
-// Whether two rows have the same ranges from the field on.
-fn same_ranges(room: &[u64], a: usize, b: usize, field: usize) -> bool
-    requires { (field ≤ field_count) × ((a * row_words + row_words ≤ length room.now) × (b * row_words + row_words ≤ length room.now)) }
-    ensures { (result ≡ true) ↔ (row_ranges room.now a field (field_count - field) ≡ row_ranges room.now b field (field_count - field)) }
-{
-    let left = a * ROW_WORDS + HEAD_WORDS;
-    let right = b * ROW_WORDS + HEAD_WORDS;
-    for f in field..FIELDS {
-        if !same_range(room, left + RANGE_WORDS * f, right + RANGE_WORDS * f) {
-            return false;
-        }
-    }
-    true
-}
-
 // Whether two rows are the same from the field on.
 fn same_row(room: &[u64], a: usize, b: usize, field: usize) -> bool
     requires { (field ≤ field_count) × ((a * row_words + row_words ≤ length room.now) × (b * row_words + row_words ≤ length room.now)) }
     ensures { (result ≡ true) ↔ (part_row field (field_count - field) room.now a ≡ part_row field (field_count - field) room.now b) }
 {
-    if room[a * ROW_WORDS] != room[b * ROW_WORDS] {
-        return false;
-    }
-    if room[a * ROW_WORDS + 1] != room[b * ROW_WORDS + 1] {
-        return false;
-    }
-    same_ranges(room, a, b, field)
+    let left = a * ROW_WORDS;
+    let right = b * ROW_WORDS;
+    let from = HEAD_WORDS + RANGE_WORDS * field;
+    room[left..left + HEAD_WORDS] == room[right..right + HEAD_WORDS]
+        && room[left + from..left + ROW_WORDS] == room[right + from..right + ROW_WORDS]
 }
 
 // Whether `count` rows from a on and from b on are the same from the field on.

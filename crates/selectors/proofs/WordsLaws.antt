@@ -145,7 +145,7 @@ module _ (ws : List ℕ) (fit : AllWords ws) where
       let e : i + 2 + 1 ≡ i + 3 = omega arith in
       rw (value_exact i, value_exact (i + 2), e, four-words i h)
 
-  ranges_exact : (i f n : ℕ) → i + 4 * f + 4 * n ≤ length ws → words_of_ranges (ranges_from ws i f n) ≡ take (4 * n) (drop (i + 4 * f) ws)
+  pub ranges_exact : (i f n : ℕ) → i + 4 * f + 4 * n ≤ length ws → words_of_ranges (ranges_from ws i f n) ≡ take (4 * n) (drop (i + 4 * f) ws)
   unfolding ranges_from
   ranges_exact i f zero h = refl
   ranges_exact i f (suc n) h =

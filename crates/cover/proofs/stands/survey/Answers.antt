@@ -1,11 +1,12 @@
--- `cover::stands::survey` meets its contract. The loop's invariant: no row so far is said to cover the box. The measure is the count of the
--- rows not looked at. Assumes nothing.
-use Rattle.std.proofs.Common.{rules}
+-- `cover::stands::survey` meets its contract. A row that covers the box, or none. Assumes nothing.
 use Rattle.cover.specs.BoxLaws.{surveyed-row, surveyed_none}
 use Rattle.cover.proofs.stands.survey.Goals as goal
 
-pub returns-then-s : goal.returns-then-s
-returns-then-s c = surveyed-row _ _ _ _ _ _ c.loop-i.i _ (search rules) c.stand_of-s.ensures
+pub returns-in-Covering : goal.returns-in-Covering
+returns-in-Covering c = surveyed-row _ _ _ _ _ c.loop-code.code-index c.loop-code-test.true (c.stand_of.ensures.covers c.in-Covering.is)
 
-pub returns : goal.returns
-returns c = surveyed_none _ _ _ _ _ _ _ c.loop-i.invariant.1
+pub returns-in-Some : goal.returns-in-Some
+returns-in-Some c = surveyed_none _ _ _ _ _ _ (λ e. absurd cc)
+
+pub returns-in-None : goal.returns-in-None
+returns-in-None c = surveyed_none _ _ _ _ _ _ (λ e. absurd cc)

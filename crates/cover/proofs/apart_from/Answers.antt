@@ -1,9 +1,0 @@
--- `cover::apart_from` meets its contract. By the policy that the code names. Assumes nothing.
-use Rattle.std.proofs.Common.{sym, ◌∙◌}
-use Rattle.cover.proofs.apart_from.Goals as goal
-
-pub returns-then-in_second : goal.returns-then-in_second
-returns-then-in_second c = rw (sym c.in_second.ensures ∙ c.if-in_second.true) c.apart_in.ensures
-
-pub returns : goal.returns
-returns c = rw (sym c.in_second.ensures ∙ c.if-in_second.false) c.apart_in-2.ensures

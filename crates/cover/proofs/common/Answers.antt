@@ -1,9 +1,0 @@
--- `cover::common` meets its contract. By the policy that the code names. Assumes nothing.
-use Rattle.std.proofs.Common.{sym, ◌∙◌}
-use Rattle.cover.proofs.common.Goals as goal
-
-pub returns-then-in_second : goal.returns-then-in_second
-returns-then-in_second c = rw (sym c.in_second.ensures ∙ c.if-in_second.true) c.common_in.ensures
-
-pub returns : goal.returns
-returns c = rw (sym c.in_second.ensures ∙ c.if-in_second.false) c.common_in-2.ensures
