@@ -45,7 +45,9 @@ impl Display for Words {
     fn fmt<W: fmt::Write>(&self, f: &mut Formatter<W>) -> fmt::Result {
         match self.0 {
             NormaliseError::Refused(Refusal::NotHeader) => f.write_str("23, not the header line"),
-            NormaliseError::Refused(Refusal::NotEnded) => f.write_str("24, the last byte is not LF"),
+            NormaliseError::Refused(Refusal::NotEnded) => f.write_str(
+                "24, the last byte is not LF",
+            ),
             NormaliseError::Refused(Refusal::TooMany) => f.write_str("21, too many rows"),
             NormaliseError::Refused(Refusal::BadRow(row)) => write!(f, "20, bad row {row}"),
             NormaliseError::TooLarge(_) => f.write_str("22, the normal form has too many rows"),
