@@ -2,17 +2,15 @@
 -- order: each answer of each call, and exactly when it is given. Assumes nothing.
 -- The packet calls are by any search (`search`), any live pairs (`pairs`) and any bytes (`p`); `k` is what is read of a packet. A policy file
 -- is any bytes (`s`). `limit` is 256 in the gateway. The conditions are those of Terms; `live` and `fitting` by the pairs themselves: Named.
-use Rattle.std.specs.Prelude.{ℕ, ◌≤◌, ◌<◌, ◌≡◌, refl, true, false, List, [], ◌∷◌, ◌↔◌, ◌⊎◌, ◌≢◌, length}
+use Rattle.std.specs.Prelude.{ℕ, ◌≤◌, ◌<◌, ◌≡◌, refl, true, false, List, [], ◌∷◌, ◌↔◌, ◌⊎◌, ◌≢◌, length, Some, None}
 use Rattle.selectors.specs.declared.Direction.{Direction}
 use Rattle.selectors.specs.declared.Direction.TheVariants.{Out, In}
 use Rattle.policy.specs.declared.Action.{Action}
 use Rattle.policy.specs.declared.Action.TheVariants.{Discard, Bypass, Protect}
 use Rattle.packet.specs.Read.{read_packet, read_trigger}
 use Rattle.packet.specs.declared.Packet.{Packet}
-use Rattle.packet.specs.declared.Reading.TheVariants.{Readable}
 use Rattle.sad.specs.Pairs.{Pair, pairs, live, fitting, pair_for, outcome_number, add_outcome, remove_outcome}
 use Rattle.sad.specs.declared.NewPair.{NewPair}
-use Rattle.sad.specs.declared.PairFound.TheVariants.{Found, Nothing}
 use Rattle.verdicts.specs.Calls.{shows, spi_of, outbound_by, inbound_by, from_sa_by}
 use Rattle.verdicts.specs.Verdict.{verdict_number, carried}
 use Rattle.policy_text.specs.declared.Edition.{Edition}
@@ -29,7 +27,7 @@ use Rattle.answer_rules.proofs.FileRulesLaws.{file-ruled, accept-ruled, normalis
 
 -- 0, pass in clear. Going out: 'Read (10), search. Bypass: 0.'
 pub out-0 : (search : List ℕ → Action) (pairs : List Pair) (p : List ℕ)
-    → (verdict_number (outbound_by search pairs p) ≡ 0) ↔ ((k : Packet) × (read_packet Out p ≡ Readable k) × (search (shows k) ≡ Bypass))
+    → (verdict_number (outbound_by search pairs p) ≡ 0) ↔ ((k : Packet) × (read_packet Out p ≡ Some k) × (search (shows k) ≡ Bypass))
 out-0 search pairs p = verdict_exactly (outbound-ruled search pairs p) 0 refl
 
 -- (Coming in from outside: Demand1ClearIn.)
@@ -38,28 +36,28 @@ out-0 search pairs p = verdict_exactly (outbound-ruled search pairs p) 0 refl
 -- 'does it fit the ranges? Yes: 1'.
 pub sa-1 : (protocol spi : ℕ) (pairs : List Pair) (p : List ℕ)
     → (verdict_number (from_sa_by protocol spi pairs p) ≡ 1)
-    ↔ ((live protocol spi pairs ≡ true) × (k : Packet) × (read_packet In p ≡ Readable k)
+    ↔ ((live protocol spi pairs ≡ true) × (k : Packet) × (read_packet In p ≡ Some k)
     × ((fitting protocol spi (shows k) pairs ≡ true)
-    ⊎ (IcmpError k × (t : Packet) × (read_trigger Out (returned p k) ≡ Readable t) × (fitting protocol spi (shows t) pairs ≡ true))))
+    ⊎ (IcmpError k × (t : Packet) × (read_trigger Out (returned p k) ≡ Some t) × (fitting protocol spi (shows t) pairs ≡ true))))
 sa-1 protocol spi pairs p = verdict_exactly (from_sa-ruled protocol spi pairs p) 1 refl
 
 -- 2, protect: 'N, pair's protocol, outbound SPI'. 'Protect-N: among live pairs with number N whose ranges hold the values, the smallest inbound
 -- SPI, ESP before AH on a tie: 2.' (That `pair_for` is that pair is `pair_for-found` in crate `sad`.)
 pub out-2 : (search : List ℕ → Action) (pairs : List Pair) (p : List ℕ) (n protocol spi : ℕ)
     → ((verdict_number (outbound_by search pairs p) ≡ 2) × (carried (outbound_by search pairs p) ≡ n ∷ protocol ∷ spi ∷ []))
-    ↔ ((k : Packet) × (read_packet Out p ≡ Readable k) × (search (shows k) ≡ Protect n) × (pair_for n (shows k) pairs ≡ Found protocol spi))
+    ↔ ((k : Packet) × (read_packet Out p ≡ Some k) × (search (shows k) ≡ Protect n) × (pair_for n (shows k) pairs ≡ Some (record { protocol = protocol; spi = spi })))
 out-2 search pairs p n protocol spi = verdict_carrying (outbound-ruled search pairs p) 2 (n ∷ protocol ∷ spi ∷ []) refl refl
 
 -- 3, association wanted: 'N'. 'None: 3.' (`pair_for_nothing` in crate `sad`.)
 pub out-3 : (search : List ℕ → Action) (pairs : List Pair) (p : List ℕ) (n : ℕ)
     → ((verdict_number (outbound_by search pairs p) ≡ 3) × (carried (outbound_by search pairs p) ≡ n ∷ 0 ∷ 0 ∷ []))
-    ↔ ((k : Packet) × (read_packet Out p ≡ Readable k) × (search (shows k) ≡ Protect n) × (pair_for n (shows k) pairs ≡ Nothing))
+    ↔ ((k : Packet) × (read_packet Out p ≡ Some k) × (search (shows k) ≡ Protect n) × (pair_for n (shows k) pairs ≡ None))
 out-3 search pairs p n = verdict_carrying (outbound-ruled search pairs p) 3 (n ∷ 0 ∷ 0 ∷ []) refl refl
 
 -- 4, to AH/ESP: 'protocol, inbound SPI'. 'The SPI is upper bytes 0 to 3 for ESP, 4 to 7 for AH; no live pair is 13; else 4.'
 pub in-4 : (search : List ℕ → Action) (address : ℕ) (pairs : List Pair) (p : List ℕ) (protocol spi : ℕ)
     → ((verdict_number (inbound_by search address pairs p) ≡ 4) × (carried (inbound_by search address pairs p) ≡ protocol ∷ spi ∷ 0 ∷ []))
-    ↔ ((k : Packet) × (read_packet In p ≡ Readable k) × ForGateway address k × (¬ (Fragment k)) × (¬ (TooShort k))
+    ↔ ((k : Packet) × (read_packet In p ≡ Some k) × ForGateway address k × (¬ (Fragment k)) × (¬ (TooShort k))
     × (protocol_of k ≡ protocol) × (spi_of p k ≡ spi) × (live protocol spi pairs ≡ true))
 in-4 search address pairs p protocol spi = verdict_carrying (inbound-ruled search address pairs p) 4 (protocol ∷ spi ∷ 0 ∷ []) refl refl
 
@@ -101,24 +99,24 @@ sa-10 protocol spi pairs p = verdict_exactly (from_sa-ruled protocol spi pairs p
 
 -- 11, policy discards. 'Discard: 11'; 'anything else is searched: … discard 11'.
 pub out-11 : (search : List ℕ → Action) (pairs : List Pair) (p : List ℕ)
-    → (verdict_number (outbound_by search pairs p) ≡ 11) ↔ ((k : Packet) × (read_packet Out p ≡ Readable k) × (search (shows k) ≡ Discard))
+    → (verdict_number (outbound_by search pairs p) ≡ 11) ↔ ((k : Packet) × (read_packet Out p ≡ Some k) × (search (shows k) ≡ Discard))
 out-11 search pairs p = verdict_exactly (outbound-ruled search pairs p) 11 refl
 
 pub in-11 : (search : List ℕ → Action) (address : ℕ) (pairs : List Pair) (p : List ℕ)
     → (verdict_number (inbound_by search address pairs p) ≡ 11)
-    ↔ ((k : Packet) × (read_packet In p ≡ Readable k) × (¬ (ForGateway address k)) × (search (shows k) ≡ Discard))
+    ↔ ((k : Packet) × (read_packet In p ≡ Some k) × (¬ (ForGateway address k)) × (search (shows k) ≡ Discard))
 in-11 search address pairs p = verdict_exactly (inbound-ruled search address pairs p) 11 refl
 
 -- 12, came in clear, policy says protect. 'Anything else is searched: … protect 12.'
 pub in-12 : (search : List ℕ → Action) (address : ℕ) (pairs : List Pair) (p : List ℕ)
     → (verdict_number (inbound_by search address pairs p) ≡ 12)
-    ↔ ((k : Packet) × (read_packet In p ≡ Readable k) × (¬ (ForGateway address k)) × (n : ℕ) × (search (shows k) ≡ Protect n))
+    ↔ ((k : Packet) × (read_packet In p ≡ Some k) × (¬ (ForGateway address k)) × (n : ℕ) × (search (shows k) ≡ Protect n))
 in-12 search address pairs p = verdict_exactly (inbound-ruled search address pairs p) 12 refl
 
 -- 13, no such pair. For the gateway, after 15 and 16: 'no live pair is 13'. From an association: 'Pair not live: 13.'
 pub in-13 : (search : List ℕ → Action) (address : ℕ) (pairs : List Pair) (p : List ℕ)
     → (verdict_number (inbound_by search address pairs p) ≡ 13)
-    ↔ ((k : Packet) × (read_packet In p ≡ Readable k) × ForGateway address k × (¬ (Fragment k)) × (¬ (TooShort k))
+    ↔ ((k : Packet) × (read_packet In p ≡ Some k) × ForGateway address k × (¬ (Fragment k)) × (¬ (TooShort k))
     × (live (protocol_of k) (spi_of p k) pairs ≡ false))
 in-13 search address pairs p = verdict_exactly (inbound-ruled search address pairs p) 13 refl
 
@@ -129,35 +127,35 @@ sa-13 protocol spi pairs p = verdict_exactly (from_sa-ruled protocol spi pairs p
 -- 14, doesn't fit the pair. 'Otherwise, unless it is ICMP with a seen type 3, 4, 5, 11 or 12 …: 14.'
 pub sa-14 : (protocol spi : ℕ) (pairs : List Pair) (p : List ℕ)
     → (verdict_number (from_sa_by protocol spi pairs p) ≡ 14)
-    ↔ ((live protocol spi pairs ≡ true) × (k : Packet) × (read_packet In p ≡ Readable k)
+    ↔ ((live protocol spi pairs ≡ true) × (k : Packet) × (read_packet In p ≡ Some k)
     × (fitting protocol spi (shows k) pairs ≡ false) × (¬ (IcmpError k)))
 sa-14 protocol spi pairs p = verdict_exactly (from_sa-ruled protocol spi pairs p) 14 refl
 
 -- 15, AH/ESP fragment. 'If the destination is the gateway and the protocol 50 or 51: a fragment (offset not 0, or more-fragments set) is 15'.
 pub in-15 : (search : List ℕ → Action) (address : ℕ) (pairs : List Pair) (p : List ℕ)
     → (verdict_number (inbound_by search address pairs p) ≡ 15)
-    ↔ ((k : Packet) × (read_packet In p ≡ Readable k) × ForGateway address k × Fragment k)
+    ↔ ((k : Packet) × (read_packet In p ≡ Some k) × ForGateway address k × Fragment k)
 in-15 search address pairs p = verdict_exactly (inbound-ruled search address pairs p) 15 refl
 
 -- 16, AH/ESP too short. 'An upper part under 8 bytes for ESP or 12 for AH is 16'.
 pub in-16 : (search : List ℕ → Action) (address : ℕ) (pairs : List Pair) (p : List ℕ)
     → (verdict_number (inbound_by search address pairs p) ≡ 16)
-    ↔ ((k : Packet) × (read_packet In p ≡ Readable k) × ForGateway address k × (¬ (Fragment k)) × TooShort k)
+    ↔ ((k : Packet) × (read_packet In p ≡ Some k) × ForGateway address k × (¬ (Fragment k)) × TooShort k)
 in-16 search address pairs p = verdict_exactly (inbound-ruled search address pairs p) 16 refl
 
 -- 17, returned header unreadable. 'For those the triggering header … Unreadable: 17.'
 pub sa-17 : (protocol spi : ℕ) (pairs : List Pair) (p : List ℕ)
     → (verdict_number (from_sa_by protocol spi pairs p) ≡ 17)
-    ↔ ((live protocol spi pairs ≡ true) × (k : Packet) × (read_packet In p ≡ Readable k)
+    ↔ ((live protocol spi pairs ≡ true) × (k : Packet) × (read_packet In p ≡ Some k)
     × (fitting protocol spi (shows k) pairs ≡ false) × IcmpError k × (¬ (ReadableHeader (returned p k))))
 sa-17 protocol spi pairs p = verdict_exactly (from_sa-ruled protocol spi pairs p) 17 refl
 
 -- 18, returned header doesn't fit. 'Read as going out (that is RFC 4301's reversal), does it fit the ranges? … No: 18.'
 pub sa-18 : (protocol spi : ℕ) (pairs : List Pair) (p : List ℕ)
     → (verdict_number (from_sa_by protocol spi pairs p) ≡ 18)
-    ↔ ((live protocol spi pairs ≡ true) × (k : Packet) × (read_packet In p ≡ Readable k)
+    ↔ ((live protocol spi pairs ≡ true) × (k : Packet) × (read_packet In p ≡ Some k)
     × (fitting protocol spi (shows k) pairs ≡ false) × IcmpError k
-    × (t : Packet) × (read_trigger Out (returned p k) ≡ Readable t) × (fitting protocol spi (shows t) pairs ≡ false))
+    × (t : Packet) × (read_trigger Out (returned p k) ≡ Some t) × (fitting protocol spi (shows t) pairs ≡ false))
 sa-18 protocol spi pairs p = verdict_exactly (from_sa-ruled protocol spi pairs p) 18 refl
 
 -- A policy file is one that 23, 24, 21 and 20 let through; `rs` has its edition and rows.

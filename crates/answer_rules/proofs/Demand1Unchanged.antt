@@ -1,27 +1,24 @@
 -- Demand 1: 'A refused policy, association or print alters no table, cache or buffer; a packet's answer alters only the cache, by its rule.'
 -- Assumes nothing.
-use Rattle.std.specs.Prelude.{ℕ, zero, suc, ◌≤◌, ◌≡◌, refl, Bool, false, cond}
+use Rattle.std.specs.Prelude.{ℕ, zero, suc, ◌≤◌, ◌≡◌, refl, Bool, false, cond, Option, Some, None, Err}
 use Rattle.std.proofs.Common.{arith, sym, ap, ◌∙◌}
 use Rattle.std.proofs.Math.Bool.{true, false≢true}
 use mathlib.Core.List.{List, Memᴰ}
 use Rattle.selectors.specs.declared.Direction.TheVariants.{Out, In}
 use Rattle.policy.specs.declared.Action.{Action}
 use Rattle.policy.specs.declared.Action.TheVariants.{Discard, Bypass, Protect}
-use Rattle.policy.specs.declared.Found.TheVariants.{Row, Nothing}
 use Rattle.policy.specs.Policy.{match_from}
 use Rattle.policy.specs.Words.{policy_rows}
 use Rattle.packet.specs.Read.{read_packet}
 use Rattle.packet.specs.declared.Packet.{Packet}
-use Rattle.packet.specs.declared.Reading.{Reading}
-use Rattle.packet.specs.declared.Reading.TheVariants.{Readable, Unreadable}
 use Rattle.spd_cache.specs.Cache.{cached, stored, looked_up}
 use Rattle.spd_cache.proofs.CacheLaws.{lookup_hit, lookup_miss, lookup_none}
 use Rattle.spd_cache.specs.declared.Cache.{Cache}
 use Rattle.spd_cache.specs.declared.Looked.{Looked}
-use Rattle.sad.specs.Pairs.{Pair, pairs, pair_at, pairs_from, is_live_at, live, named, named_at, first_from, place_of, cleared_at, outcome_number, add_outcome, added, remove_outcome, removed}
+use Rattle.sad.specs.Pairs.{Pair, pairs, pair_at, pairs_from, is_live_at, live, named, named_at, first_from, place_of, cleared_at, outcome_number, done, add_outcome, added, remove_outcome, removed}
 use Rattle.sad.specs.TableLaws.{refused_kept}
 use Rattle.sad.specs.declared.NewPair.{NewPair}
-use Rattle.sad.specs.declared.Outcome.TheVariants.{Done, NothingToRemove}
+use Rattle.sad.specs.declared.PairError.TheVariants.{NothingToRemove}
 use Rattle.verdicts.specs.Calls.{shows, for_gateway, to_ipsec, inbound_action, inbound_read, inbound_by}
 use Rattle.gateway.specs.Cached.{cached_search, outbound_cached, inbound_cache, inbound_cached}
 use Rattle.verdicts.specs.Verdict.{verdict_number}
@@ -56,7 +53,7 @@ pub remove_unchanged : (ws : List ℕ) (protocol spi : ℕ) → 10 ≤ outcome_n
 unfolding removed remove_outcome
 remove_unchanged ws protocol spi h = by (live protocol spi (pairs ws)) refl h
   where
-    by : (b : Bool) → live protocol spi (pairs ws) ≡ b → 10 ≤ outcome_number (cond b Done NothingToRemove)
+    by : (b : Bool) → live protocol spi (pairs ws) ≡ b → 10 ≤ outcome_number (cond b done (Err NothingToRemove))
         → cleared_at ws (place_of ws protocol spi) ≡ ws
     by true e g = absurd (omega arith)
     by false e g = not_cleared ws protocol spi 0 64 e
@@ -68,22 +65,22 @@ module _ (c : Cache) (ws : List ℕ) (pairs : List Pair) (p : List ℕ) where
   unfolding outbound_cached
   out-unsearched e = rw ((unreadable Out p).1 ((out-10 (cached_search c ws Out) pairs p).0 e))
 
-  module _ (k : Packet) (read : read_packet Out p ≡ Readable k) where
+  module _ (k : Packet) (read : read_packet Out p ≡ Some k) where
     out_looked : (outbound_cached c ws pairs p).cache ≡ (looked_up c ws Out (shows k)).cache
     unfolding outbound_cached
     out_looked = rw read
 
     -- 'A hit changes nothing.'
-    pub out_hit : (j : ℕ) → match_from 0 Out (cached c) (shows k) ≡ Row j → (outbound_cached c ws pairs p).cache ≡ c
+    pub out_hit : (j : ℕ) → match_from 0 Out (cached c) (shows k) ≡ Some j → (outbound_cached c ws pairs p).cache ≡ c
     out_hit j e = out_looked ∙ ap (λ (l : Looked). l.cache) (lookup_hit c ws Out (shows k) j e)
 
     -- 'A miss that finds a row writes it to the slot whose turn it is, and the turn moves on, round after 32.'
-    pub out_miss : (j : ℕ) → match_from 0 Out (cached c) (shows k) ≡ Nothing → match_from 0 Out (policy_rows ws) (shows k) ≡ Row j
+    pub out_miss : (j : ℕ) → match_from 0 Out (cached c) (shows k) ≡ None → match_from 0 Out (policy_rows ws) (shows k) ≡ Some j
         → (outbound_cached c ws pairs p).cache ≡ stored c ws j
     out_miss j e f = out_looked ∙ ap (λ (l : Looked). l.cache) (lookup_miss c ws Out (shows k) j e f)
 
     -- 'A miss without a row changes nothing.'
-    pub out-no_row : match_from 0 Out (cached c) (shows k) ≡ Nothing → match_from 0 Out (policy_rows ws) (shows k) ≡ Nothing
+    pub out-no_row : match_from 0 Out (cached c) (shows k) ≡ None → match_from 0 Out (policy_rows ws) (shows k) ≡ None
         → (outbound_cached c ws pairs p).cache ≡ c
     out-no_row e f = out_looked ∙ ap (λ (l : Looked). l.cache) (lookup_none c ws Out (shows k) e f)
 
@@ -106,24 +103,24 @@ module _ (c : Cache) (ws : List ℕ) (address : ℕ) (pairs : List Pair) (p : Li
       told k true e = refl
       told k false e = absurd (acted (cached_search c ws In (shows k)) e)
 
-      by : (r : Reading) → among (verdict_number (inbound_read (cached_search c ws In) address pairs p r)) unsearched ≡ true
+      by : (r : Option Packet) → among (verdict_number (inbound_read (cached_search c ws In) address pairs p r)) unsearched ≡ true
           → inbound_cache c ws address r ≡ c
-      by (Readable k) e = told k (for_gateway address k) e
-      by Unreadable e = refl
+      by (Some k) e = told k (for_gateway address k) e
+      by None e = refl
 
-  module _ (k : Packet) (read : read_packet In p ≡ Readable k) (other : ¬ (ForGateway address k)) where
+  module _ (k : Packet) (read : read_packet In p ≡ Some k) (other : ¬ (ForGateway address k)) where
     in_looked : (inbound_cached c ws address pairs p).cache ≡ (looked_up c ws In (shows k)).cache
     unfolding inbound_cached
     in_looked = rw (read, is_false (gateway_decides address k) other)
 
     -- 'Anything else is searched': a hit, a miss that finds a row, and a miss without a row.
-    pub in_hit : (j : ℕ) → match_from 0 In (cached c) (shows k) ≡ Row j → (inbound_cached c ws address pairs p).cache ≡ c
+    pub in_hit : (j : ℕ) → match_from 0 In (cached c) (shows k) ≡ Some j → (inbound_cached c ws address pairs p).cache ≡ c
     in_hit j e = in_looked ∙ ap (λ (l : Looked). l.cache) (lookup_hit c ws In (shows k) j e)
 
-    pub in_miss : (j : ℕ) → match_from 0 In (cached c) (shows k) ≡ Nothing → match_from 0 In (policy_rows ws) (shows k) ≡ Row j
+    pub in_miss : (j : ℕ) → match_from 0 In (cached c) (shows k) ≡ None → match_from 0 In (policy_rows ws) (shows k) ≡ Some j
         → (inbound_cached c ws address pairs p).cache ≡ stored c ws j
     in_miss j e f = in_looked ∙ ap (λ (l : Looked). l.cache) (lookup_miss c ws In (shows k) j e f)
 
-    pub in-no_row : match_from 0 In (cached c) (shows k) ≡ Nothing → match_from 0 In (policy_rows ws) (shows k) ≡ Nothing
+    pub in-no_row : match_from 0 In (cached c) (shows k) ≡ None → match_from 0 In (policy_rows ws) (shows k) ≡ None
         → (inbound_cached c ws address pairs p).cache ≡ c
     in-no_row e f = in_looked ∙ ap (λ (l : Looked). l.cache) (lookup_none c ws In (shows k) e f)

@@ -1,5 +1,5 @@
 -- An answer is given exactly where its rule says so, for answers that are told by their number and values. Assumes nothing.
-use Rattle.std.specs.Prelude.{ℕ, ◌≡◌, refl, cond, List, ◌↔◌, eqb, get_or}
+use Rattle.std.specs.Prelude.{ℕ, ◌≡◌, refl, cond, List, ◌↔◌, eqb, get_or, Result, Ok, Err}
 use Rattle.std.proofs.Common.{sym, ap, ◌∙◌, subst}
 use Rattle.selectors.specs.declared.Direction.{Direction}
 use Rattle.selectors.specs.declared.Direction.TheVariants.{Out, In}
@@ -7,16 +7,16 @@ use Rattle.verdicts.specs.Verdict.{verdict_number, carried}
 use Rattle.verdicts.specs.declared.Verdict.{Verdict}
 use Rattle.verdicts.specs.declared.Verdict.TheVariants.{Pass, Deliver, Protect, Wanted, ToIpsec, NotReadable, Discarded, CameInClear, NoSuchPair, DoesNotFit, IpsecFragment, IpsecTooShort, TriggerUnreadable, TriggerDoesNotFit}
 use Rattle.sad.specs.Pairs.{outcome_number}
-use Rattle.sad.specs.declared.Outcome.{Outcome}
-use Rattle.sad.specs.declared.Outcome.TheVariants.{Done, ReservedSpi, AlreadyLive, TableFull, BadPair, NothingToRemove}
+use Rattle.sad.specs.Pairs.{Outcome, done}
+use Rattle.sad.specs.declared.PairError.TheVariants.{ReservedSpi, AlreadyLive, TableFull, BadPair, NothingToRemove}
 use Rattle.policy_text.specs.declared.Refusal.{Refusal}
 use Rattle.policy_text.specs.declared.Refusal.TheVariants.{NotHeader, NotEnded, TooMany, BadRow}
 use Rattle.normal_form_file.specs.Normalise.{normalised_number, normalised_carries}
-use Rattle.normal_form_file.specs.declared.Normalised.{Normalised}
-use Rattle.normal_form_file.specs.declared.Normalised.TheVariants.{Printed, Refused, TooLarge, NoRoom}
+use Rattle.normal_form_file.specs.declared.NormaliseError.{NormaliseError}
+use Rattle.normal_form_file.specs.declared.NormaliseError.TheVariants.{Refused, TooLarge, NoRoom}
 use Rattle.acceptance.specs.Spd.{acceptance_number, acceptance_carries}
-use Rattle.acceptance.specs.declared.Acceptance.{Acceptance}
-use Rattle.acceptance.specs.declared.Acceptance.TheVariants.{Accepted, Refused as RefusedFile, TooLarge as OverForm}
+use Rattle.acceptance.specs.declared.AcceptError.{AcceptError}
+use Rattle.acceptance.specs.declared.AcceptError.TheVariants.{Refused as RefusedFile, TooLarge as OverForm}
 
 -- A rule for each answer: the answer's own rule holds, and no other answer's does.
 pub record Ruled {A : Type 0} (Rule : A → Type 0) (a : A) : Type 0 where
@@ -85,20 +85,20 @@ module _ {Rule : Verdict → Type 0} {v : Verdict} (r : Ruled Rule v) where
 -- The outcome of a number: it carries nothing.
 abbrev pub outcome_of : ℕ → Outcome
 outcome_of n =
-    cond (eqb n 5) Done
-    (cond (eqb n 25) ReservedSpi
-    (cond (eqb n 26) AlreadyLive
-    (cond (eqb n 27) TableFull
-    (cond (eqb n 28) BadPair
-    NothingToRemove))))
+    cond (eqb n 5) done
+    (cond (eqb n 25) (Err ReservedSpi)
+    (cond (eqb n 26) (Err AlreadyLive)
+    (cond (eqb n 27) (Err TableFull)
+    (cond (eqb n 28) (Err BadPair)
+    Err NothingToRemove))))
 
 outcome_told : (o : Outcome) → outcome_of (outcome_number o) ≡ o
-outcome_told Done = refl
-outcome_told ReservedSpi = refl
-outcome_told AlreadyLive = refl
-outcome_told TableFull = refl
-outcome_told BadPair = refl
-outcome_told NothingToRemove = refl
+outcome_told (Ok u) = refl
+outcome_told (Err ReservedSpi) = refl
+outcome_told (Err AlreadyLive) = refl
+outcome_told (Err TableFull) = refl
+outcome_told (Err BadPair) = refl
+outcome_told (Err NothingToRemove) = refl
 
 pub outcome_exactly : {Rule : Outcome → Type 0} {o : Outcome} → Ruled Rule o → (n : ℕ) → outcome_number (outcome_of n) ≡ n
     → (outcome_number o ≡ n) ↔ Rule (outcome_of n)
@@ -112,24 +112,24 @@ refusal_of n x = cond (eqb n 20) (BadRow x) (cond (eqb n 21) TooMany (cond (eqb 
 abbrev pub direction_of : ℕ → Direction
 direction_of x = cond (eqb x 1) Out In
 
-abbrev pub normalised_of : ℕ → ℕ → Normalised
+abbrev pub normalised_of : ℕ → ℕ → Result ℕ NormaliseError
 normalised_of n x =
-    cond (eqb n 5) (Printed x)
-    (cond (eqb n 22) (TooLarge (direction_of x))
-    (cond (eqb n 31) NoRoom
-    (Refused (refusal_of n x))))
+    cond (eqb n 5) (Ok x)
+    (cond (eqb n 22) (Err (TooLarge (direction_of x)))
+    (cond (eqb n 31) (Err NoRoom)
+    (Err (Refused (refusal_of n x)))))
 
-normalised_told : (a : Normalised) → normalised_of (normalised_number a) (normalised_carries a) ≡ a
-normalised_told (Printed n) = refl
-normalised_told (Refused NotHeader) = refl
-normalised_told (Refused NotEnded) = refl
-normalised_told (Refused TooMany) = refl
-normalised_told (Refused (BadRow i)) = refl
-normalised_told (TooLarge Out) = refl
-normalised_told (TooLarge In) = refl
-normalised_told NoRoom = refl
+normalised_told : (a : Result ℕ NormaliseError) → normalised_of (normalised_number a) (normalised_carries a) ≡ a
+normalised_told (Ok n) = refl
+normalised_told (Err (Refused NotHeader)) = refl
+normalised_told (Err (Refused NotEnded)) = refl
+normalised_told (Err (Refused TooMany)) = refl
+normalised_told (Err (Refused (BadRow i))) = refl
+normalised_told (Err (TooLarge Out)) = refl
+normalised_told (Err (TooLarge In)) = refl
+normalised_told (Err NoRoom) = refl
 
-module _ {Rule : Normalised → Type 0} {a : Normalised} (r : Ruled Rule a) where
+module _ {Rule : Result ℕ NormaliseError → Type 0} {a : Result ℕ NormaliseError} (r : Ruled Rule a) where
   pub normalised_exactly : (n : ℕ) → normalised_number (normalised_of n (normalised_carries a)) ≡ n
       → (normalised_number a ≡ n) ↔ Rule (normalised_of n (normalised_carries a))
   normalised_exactly = by_number normalised_number normalised_carries normalised_of normalised_told r
@@ -139,22 +139,22 @@ module _ {Rule : Normalised → Type 0} {a : Normalised} (r : Ruled Rule a) wher
   normalised_carrying = by_both normalised_number normalised_carries normalised_of normalised_told r
 
 -- The answer to a policy file, of a number and a value.
-abbrev pub acceptance_of : ℕ → ℕ → Acceptance
+abbrev pub acceptance_of : ℕ → ℕ → Result Unit AcceptError
 acceptance_of n x =
-    cond (eqb n 5) Accepted
-    (cond (eqb n 22) (OverForm (direction_of x))
-    (RefusedFile (refusal_of n x)))
+    cond (eqb n 5) (Ok tt)
+    (cond (eqb n 22) (Err (OverForm (direction_of x)))
+    (Err (RefusedFile (refusal_of n x))))
 
-acceptance_told : (a : Acceptance) → acceptance_of (acceptance_number a) (acceptance_carries a) ≡ a
-acceptance_told Accepted = refl
-acceptance_told (RefusedFile NotHeader) = refl
-acceptance_told (RefusedFile NotEnded) = refl
-acceptance_told (RefusedFile TooMany) = refl
-acceptance_told (RefusedFile (BadRow i)) = refl
-acceptance_told (OverForm Out) = refl
-acceptance_told (OverForm In) = refl
+acceptance_told : (a : Result Unit AcceptError) → acceptance_of (acceptance_number a) (acceptance_carries a) ≡ a
+acceptance_told (Ok u) = refl
+acceptance_told (Err (RefusedFile NotHeader)) = refl
+acceptance_told (Err (RefusedFile NotEnded)) = refl
+acceptance_told (Err (RefusedFile TooMany)) = refl
+acceptance_told (Err (RefusedFile (BadRow i))) = refl
+acceptance_told (Err (OverForm Out)) = refl
+acceptance_told (Err (OverForm In)) = refl
 
-module _ {Rule : Acceptance → Type 0} {a : Acceptance} (r : Ruled Rule a) where
+module _ {Rule : Result Unit AcceptError → Type 0} {a : Result Unit AcceptError} (r : Ruled Rule a) where
   pub acceptance_exactly : (n : ℕ) → acceptance_number (acceptance_of n (acceptance_carries a)) ≡ n
       → (acceptance_number a ≡ n) ↔ Rule (acceptance_of n (acceptance_carries a))
   acceptance_exactly = by_number acceptance_number acceptance_carries acceptance_of acceptance_told r

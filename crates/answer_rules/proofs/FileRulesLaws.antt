@@ -1,7 +1,7 @@
 -- The rules of policy files and of normalising one, a rule for each answer: the answer's own rule holds, and no other's. Assumes nothing.
 use Prim.Native.Nat.{ℕ, zero, suc, ◌+◌, ◌-◌, ◌≤◌, ◌<◌}
 use native.Mathlib.Omega.{arith}
-use Rattle.std.specs.Prelude.{◌≡◌, Bool, cond, ◌↔◌, leb, eqb, length, get_or}
+use Rattle.std.specs.Prelude.{◌≡◌, Bool, cond, ◌↔◌, leb, eqb, length, get_or, Result, Ok, Err}
 use Rattle.std.proofs.Math.Path.{refl, ap}
 use Rattle.std.proofs.Common.{sym, ◌∙◌}
 use mathlib.Core.List.{List, [], ◌∷◌, map}
@@ -18,11 +18,11 @@ use Rattle.policy_text.specs.Editions.{format_of, edition_of, body_of, row_count
 use Rattle.policy_round_trip.proofs.EditionsLaws.{edition_is, edition_heads}
 use Rattle.decorrelate.specs.Form.{form, direction_number}
 use Rattle.normal_form_file.specs.Normalise.{form_file, normalised, normalised_number, normalised_carries}
-use Rattle.normal_form_file.specs.declared.Normalised.{Normalised}
-use Rattle.normal_form_file.specs.declared.Normalised.TheVariants.{Printed, Refused, TooLarge, NoRoom as Short}
+use Rattle.normal_form_file.specs.declared.NormaliseError.{NormaliseError}
+use Rattle.normal_form_file.specs.declared.NormaliseError.TheVariants.{Refused, TooLarge, NoRoom as Short}
 use Rattle.acceptance.specs.Spd.{accepting}
-use Rattle.acceptance.specs.declared.Acceptance.{Acceptance}
-use Rattle.acceptance.specs.declared.Acceptance.TheVariants.{Accepted, Refused as RefusedFile, TooLarge as RefusedForm}
+use Rattle.acceptance.specs.declared.AcceptError.{AcceptError}
+use Rattle.acceptance.specs.declared.AcceptError.TheVariants.{Refused as RefusedFile, TooLarge as RefusedForm}
 use Rattle.answer_rules.proofs.DecidesLaws.{Decides, holding, failing, is_true, is_false, decides_le, decides_eq}
 use Rattle.answer_rules.specs.Terms.{Headed, HasHeader, EndsInLf, FirstBadRow, normalised_file, accepted_file}
 use Rattle.answer_rules.specs.FileRules.{RefusalRule, FileRule, NormaliseRule, AcceptRule}
@@ -175,7 +175,7 @@ module _ (limit : ℕ) (d : Direction) (room : ℕ) (s : List ℕ) where
   form-holds rs p = by (decides_le (length (form d rs)) limit) (decides_le (length (form_file d rs)) room)
     where
       by : {a b : Bool} → Decides (length (form d rs) ≤ limit) a → Decides (length (form_file d rs) ≤ room) b
-          → NormaliseRule limit d room s (cond a (cond b (Printed (length (form_file d rs))) Short) (TooLarge d))
+          → NormaliseRule limit d room s (cond a (cond b (Ok (length (form_file d rs))) (Err Short)) (Err (TooLarge d)))
       by (holding w) (holding f) = (rs, p, w, f, refl)
       by (holding w) (failing f) = (rs, p, w, omega arith)
       by (failing w) f = (refl, rs, p, omega arith)
@@ -187,20 +187,20 @@ module _ (limit : ℕ) (d : Direction) (room : ℕ) (s : List ℕ) where
       by (rows rs) e h = form-holds rs e
       by (refused r) e h = h
 
-  normalise_only : (a : Normalised) → NormaliseRule limit d room s a → normalised_file limit d room s ≡ a
-  normalise_only (Printed n) h =
+  normalise_only : (a : Result ℕ NormaliseError) → NormaliseRule limit d room s a → normalised_file limit d room s ≡ a
+  normalise_only (Ok n) h =
       rw (h.1, is_true (decides_le (length (form d h.0)) limit) h.2, is_true (decides_le (length (form_file d h.0)) room) h.3, h.4)
-  normalise_only (Refused r) h = rw (refusal_only limit s r h)
-  normalise_only (TooLarge w) h = rw (h.2, is_false (decides_le (length (form d h.1)) limit) (omega arith), h.0)
-  normalise_only Short h =
+  normalise_only (Err (Refused r)) h = rw (refusal_only limit s r h)
+  normalise_only (Err (TooLarge w)) h = rw (h.2, is_false (decides_le (length (form d h.1)) limit) (omega arith), h.0)
+  normalise_only (Err Short) h =
       rw (h.1, is_true (decides_le (length (form d h.0)) limit) h.2, is_false (decides_le (length (form_file d h.0)) room) (omega arith))
 
   pub normalise-ruled : Ruled (NormaliseRule limit d room s) (normalised_file limit d room s)
   normalise-ruled = record { holds = normalise-holds; only = normalise_only }
 
   -- The refusal for size, with the way that it carries.
-  over_is : (rs : Rules) → parse_policy limit s ≡ rows rs → limit < length (form d rs) → normalised_file limit d room s ≡ TooLarge d
-  over_is rs p o = normalise_only (TooLarge d) (refl, rs, p, o)
+  over_is : (rs : Rules) → parse_policy limit s ≡ rows rs → limit < length (form d rs) → normalised_file limit d room s ≡ Err (TooLarge d)
+  over_is rs p o = normalise_only (Err (TooLarge d)) (refl, rs, p, o)
 
   pub normalise_over : (way : ℕ)
       → ((normalised_number (normalised_file limit d room s) ≡ 22) × (normalised_carries (normalised_file limit d room s) ≡ way))
@@ -217,7 +217,7 @@ module _ (limit : ℕ) (s : List ℕ) where
   forms_hold rs p = by (decides_le (length (form Out rs)) limit) (decides_le (length (form In rs)) limit)
     where
       by : {a b : Bool} → Decides (length (form Out rs) ≤ limit) a → Decides (length (form In rs) ≤ limit) b
-          → AcceptRule limit s (cond a (cond b Accepted (RefusedForm In)) (RefusedForm Out))
+          → AcceptRule limit s (cond a (cond b (Ok tt) (Err (RefusedForm In))) (Err (RefusedForm Out)))
       by (holding o) (holding i) = (rs, p, o, i)
       by (holding o) (failing i) = (rs, p, o, omega arith)
       by (failing o) i = (rs, p, omega arith)
@@ -229,12 +229,12 @@ module _ (limit : ℕ) (s : List ℕ) where
       by (rows rs) e h = forms_hold rs e
       by (refused r) e h = h
 
-  accept_only : (a : Acceptance) → AcceptRule limit s a → accepted_file limit s ≡ a
-  accept_only Accepted h =
+  accept_only : (a : Result Unit AcceptError) → AcceptRule limit s a → accepted_file limit s ≡ a
+  accept_only (Ok u) h =
       rw (h.1, is_true (decides_le (length (form Out h.0)) limit) h.2, is_true (decides_le (length (form In h.0)) limit) h.3)
-  accept_only (RefusedFile r) h = rw (refusal_only limit s r h)
-  accept_only (RefusedForm Out) h = rw (h.1, is_false (decides_le (length (form Out h.0)) limit) (omega arith))
-  accept_only (RefusedForm In) h =
+  accept_only (Err (RefusedFile r)) h = rw (refusal_only limit s r h)
+  accept_only (Err (RefusedForm Out)) h = rw (h.1, is_false (decides_le (length (form Out h.0)) limit) (omega arith))
+  accept_only (Err (RefusedForm In)) h =
       rw (h.1, is_true (decides_le (length (form Out h.0)) limit) h.2, is_false (decides_le (length (form In h.0)) limit) (omega arith))
 
   pub accept-ruled : Ruled (AcceptRule limit s) (accepted_file limit s)

@@ -1,16 +1,16 @@
 -- The rules of adding and removing a pair, a rule for each outcome: the outcome's own rule holds, and no other's. Assumes nothing.
-use Rattle.std.specs.Prelude.{ℕ, zero, suc, ◌≤◌, ◌<◌, ◌≡◌, Bool, cond, not, ◌&&◌, ◌||◌, List, ◌∷◌, leb, length}
+use Rattle.std.specs.Prelude.{ℕ, zero, suc, ◌≤◌, ◌<◌, ◌≡◌, Bool, cond, not, ◌&&◌, ◌||◌, List, ◌∷◌, leb, length, Ok, Err}
 use Rattle.std.proofs.Common.{arith, inl, inr, ⊎_elim}
 use Rattle.std.proofs.Math.Decide.{dec_le, dec_lt}
 use Rattle.std.proofs.Math.Path.{refl}
 use Rattle.std.proofs.Math.Bool.{true, false}
 use Rattle.selectors.specs.Range.{in_field, address_size, protocol_size, port_size}
 use Rattle.selectors.specs.Value.{number}
-use Rattle.selectors.specs.declared.Ends.{Ends}
+use Rattle.selectors.specs.declared.ranges.Ends.{Ends}
 use Rattle.sad.specs.Pairs.{place_count, pair_at, pairs_from, pairs, live, is_live_at, ipsec, reserved_spi, ends_in, ranges_in_fields, well_formed, add_outcome, remove_outcome}
 use Rattle.sad.specs.declared.NewPair.{NewPair}
-use Rattle.sad.specs.declared.Outcome.{Outcome}
-use Rattle.sad.specs.declared.Outcome.TheVariants.{Done, ReservedSpi, AlreadyLive, TableFull, BadPair as Malformed, NothingToRemove}
+use Rattle.sad.specs.Pairs.{Outcome, done}
+use Rattle.sad.specs.declared.PairError.TheVariants.{ReservedSpi, AlreadyLive, TableFull, BadPair as Malformed, NothingToRemove}
 use Rattle.answer_rules.proofs.DecidesLaws.{Decides, holding, failing, is_true, is_false, decides_iff, decides_equal, decides_not, decides_and, decides_or, decides_le, decides_lt, decides_eq}
 use Rattle.answer_rules.specs.Terms.{LowSpi, NotIpsec, BadRange, SomeBadRange, BadPair}
 use Rattle.answer_rules.specs.PairRules.{AddRule, RemoveRule}
@@ -100,7 +100,7 @@ module _ (ws : List ℕ) (q : NewPair) where
     where
       by : {a b c : Bool} → Decides (LowSpi q) a → Decides (BadPair q) b → (l : Bool) → live q.protocol q.spi_in (pairs ws) ≡ l
           → Decides (length (pairs ws) ≡ 64) c
-          → AddRule ws q (cond a ReservedSpi (cond b Malformed (cond l AlreadyLive (cond c TableFull Done))))
+          → AddRule ws q (cond a (Err ReservedSpi) (cond b (Err Malformed) (cond l (Err AlreadyLive) (cond c (Err TableFull) done))))
       by (holding s) b l e f = s
       by (failing s) (holding b) l e f = (s, b)
       by (failing s) (failing b) true e f = (s, b, e)
@@ -109,12 +109,12 @@ module _ (ws : List ℕ) (q : NewPair) where
 
   add_only : (o : Outcome) → AddRule ws q o → add_outcome (pairs ws) q ≡ o
   unfolding add_outcome
-  add_only ReservedSpi h = rw (is_true (spi_decides q) h)
-  add_only Malformed h = rw (is_false (spi_decides q) h.0, is_true (bad_decides q) h.1)
-  add_only AlreadyLive h = rw (is_false (spi_decides q) h.0, is_false (bad_decides q) h.1, h.2)
-  add_only TableFull h = rw (is_false (spi_decides q) h.0, is_false (bad_decides q) h.1, h.2, is_true (full_decides ws) h.3)
-  add_only Done h = rw (is_false (spi_decides q) h.0, is_false (bad_decides q) h.1, h.2, is_false (full_decides ws) h.3)
-  add_only NothingToRemove h = absurd h
+  add_only (Err ReservedSpi) h = rw (is_true (spi_decides q) h)
+  add_only (Err Malformed) h = rw (is_false (spi_decides q) h.0, is_true (bad_decides q) h.1)
+  add_only (Err AlreadyLive) h = rw (is_false (spi_decides q) h.0, is_false (bad_decides q) h.1, h.2)
+  add_only (Err TableFull) h = rw (is_false (spi_decides q) h.0, is_false (bad_decides q) h.1, h.2, is_true (full_decides ws) h.3)
+  add_only (Ok u) h = rw (is_false (spi_decides q) h.0, is_false (bad_decides q) h.1, h.2, is_false (full_decides ws) h.3)
+  add_only (Err NothingToRemove) h = absurd h
 
   pub add-ruled : Ruled (AddRule ws q) (add_outcome (pairs ws) q)
   add-ruled = record { holds = add_holds; only = add_only }
@@ -124,18 +124,18 @@ module _ (ws : List ℕ) (protocol spi : ℕ) where
   unfolding remove_outcome
   remove-holds = by (live protocol spi (pairs ws)) refl
     where
-      by : (l : Bool) → live protocol spi (pairs ws) ≡ l → RemoveRule ws protocol spi (cond l Done NothingToRemove)
+      by : (l : Bool) → live protocol spi (pairs ws) ≡ l → RemoveRule ws protocol spi (cond l done (Err NothingToRemove))
       by true e = e
       by false e = e
 
   remove_only : (o : Outcome) → RemoveRule ws protocol spi o → remove_outcome (pairs ws) protocol spi ≡ o
   unfolding remove_outcome
-  remove_only Done h = rw h
-  remove_only ReservedSpi h = absurd h
-  remove_only AlreadyLive h = absurd h
-  remove_only TableFull h = absurd h
-  remove_only Malformed h = absurd h
-  remove_only NothingToRemove h = rw h
+  remove_only (Ok u) h = rw h
+  remove_only (Err ReservedSpi) h = absurd h
+  remove_only (Err AlreadyLive) h = absurd h
+  remove_only (Err TableFull) h = absurd h
+  remove_only (Err Malformed) h = absurd h
+  remove_only (Err NothingToRemove) h = rw h
 
   pub remove-ruled : Ruled (RemoveRule ws protocol spi) (remove_outcome (pairs ws) protocol spi)
   remove-ruled = record { holds = remove-holds; only = remove_only }

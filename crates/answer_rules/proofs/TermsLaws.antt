@@ -1,12 +1,11 @@
 -- The tests of the definitions decide document 01's conditions. Assumes nothing.
-use Rattle.std.specs.Prelude.{ℕ, ◌*◌, ◌/◌, ◌≤◌, ◌<◌, ◌≡◌, refl, Bool, cond, ◌&&◌, List, ◌↔◌, ◌⊎◌, leb, ltb, length}
+use Rattle.std.specs.Prelude.{ℕ, ◌*◌, ◌/◌, ◌≤◌, ◌<◌, ◌≡◌, refl, Bool, cond, ◌&&◌, List, ◌↔◌, ◌⊎◌, leb, ltb, length, Some, None}
 use Rattle.std.proofs.Common.{arith, inl, inr}
 use Rattle.selectors.specs.Range.{absent}
 use Rattle.selectors.specs.declared.Direction.{Direction}
 use Rattle.packet.specs.Header.{version, header_field, total_length}
 use Rattle.packet.specs.Read.{header_good, readable, trigger_readable, read_packet, read_trigger, error_type, icmp_error}
 use Rattle.packet.specs.declared.Packet.{Packet}
-use Rattle.packet.specs.declared.Reading.TheVariants.{Readable, Unreadable}
 use Rattle.verdicts.specs.Calls.{esp, for_gateway, fragment}
 use Rattle.answer_rules.proofs.DecidesLaws.{Decides, holding, failing, decides_iff, decides_not, decides_and, decides_or, decides_le, decides_lt, decides_eq, decides_flag}
 use Rattle.answer_rules.specs.Terms.{ReadablePacket, ReadableHeader, protocol_of, type_and_code, ForGateway, Fragment, TooShort, upper_bytes, ErrorType, IcmpError}
@@ -35,15 +34,15 @@ module _ (p : List ℕ) where
       (good_decides (4 * header_field p))
 
 -- What is not readable is just what is read as such.
-not_read : {P : Type 0} {b : Bool} → Decides P b → (k : Packet) → (cond b (Readable k) Unreadable ≡ Unreadable) ↔ (¬ P)
+not_read : {P : Type 0} {b : Bool} → Decides P b → (k : Packet) → (cond b (Some k) None ≡ None) ↔ (¬ P)
 not_read (holding h) k = (λ e. let z : ◌≡◌ {A = ℕ} 0 1 = cc in absurd (omega arith), λ n. absurd (n h))
 not_read (failing n) k = (λ e. n, λ m. refl)
 
-pub unreadable : (d : Direction) (p : List ℕ) → (read_packet d p ≡ Unreadable) ↔ (¬ (ReadablePacket p))
+pub unreadable : (d : Direction) (p : List ℕ) → (read_packet d p ≡ None) ↔ (¬ (ReadablePacket p))
 unfolding read_packet
 unreadable d p = not_read (readable_decides p) _
 
-pub header_unreadable : (d : Direction) (p : List ℕ) → (read_trigger d p ≡ Unreadable) ↔ (¬ (ReadableHeader p))
+pub header_unreadable : (d : Direction) (p : List ℕ) → (read_trigger d p ≡ None) ↔ (¬ (ReadableHeader p))
 unfolding read_trigger
 header_unreadable d p = not_read (header_decides p) _
 

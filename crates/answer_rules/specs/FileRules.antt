@@ -1,5 +1,5 @@
 -- The rules of policy files and of normalising one, a rule for each answer. Assumes nothing: these are definitions.
-use Rattle.std.specs.Prelude.{ℕ, ◌≤◌, ◌<◌, ◌≡◌, List, length}
+use Rattle.std.specs.Prelude.{ℕ, ◌≤◌, ◌<◌, ◌≡◌, List, length, Result, Ok, Err}
 use Rattle.selectors.specs.declared.Direction.{Direction}
 use Rattle.selectors.specs.declared.Direction.TheVariants.{Out, In}
 use Rattle.policy_text.specs.declared.Edition.{Edition}
@@ -8,10 +8,10 @@ use Rattle.policy_text.specs.declared.Refusal.TheVariants.{NotHeader, NotEnded, 
 use Rattle.policy_text.specs.Editions.{row_count, Rules, Policy, refused, rows, parse_policy}
 use Rattle.decorrelate.specs.Form.{form}
 use Rattle.normal_form_file.specs.Normalise.{form_file}
-use Rattle.normal_form_file.specs.declared.Normalised.{Normalised}
-use Rattle.normal_form_file.specs.declared.Normalised.TheVariants.{Printed, Refused, TooLarge, NoRoom as Short}
-use Rattle.acceptance.specs.declared.Acceptance.{Acceptance}
-use Rattle.acceptance.specs.declared.Acceptance.TheVariants.{Accepted, Refused as RefusedFile, TooLarge as RefusedForm}
+use Rattle.normal_form_file.specs.declared.NormaliseError.{NormaliseError}
+use Rattle.normal_form_file.specs.declared.NormaliseError.TheVariants.{Refused, TooLarge, NoRoom as Short}
+use Rattle.acceptance.specs.declared.AcceptError.{AcceptError}
+use Rattle.acceptance.specs.declared.AcceptError.TheVariants.{Refused as RefusedFile, TooLarge as RefusedForm}
 use Rattle.answer_rules.specs.Terms.{Headed, HasHeader, EndsInLf, FirstBadRow, RowsAre}
 
 -- The refusals of a file, the same for every call: 'in the order 23, 24, 21, 20 (first bad row)'.
@@ -28,21 +28,21 @@ FileRule limit s (rows rs) =
 FileRule limit s (refused r) = RefusalRule limit s r
 
 -- Normalising a policy file for one direction.
-abbrev pub NormaliseRule : ℕ → Direction → ℕ → List ℕ → Normalised → Type 0
-NormaliseRule limit d room s (Printed n) =
+abbrev pub NormaliseRule : ℕ → Direction → ℕ → List ℕ → Result ℕ NormaliseError → Type 0
+NormaliseRule limit d room s (Ok n) =
     (rs : Rules) × (parse_policy limit s ≡ rows rs) × (length (form d rs) ≤ limit) × (length (form_file d rs) ≤ room)
     × (length (form_file d rs) ≡ n)
-NormaliseRule limit d room s (Refused r) = RefusalRule limit s r
-NormaliseRule limit d room s (TooLarge w) =
+NormaliseRule limit d room s (Err (Refused r)) = RefusalRule limit s r
+NormaliseRule limit d room s (Err (TooLarge w)) =
     (w ≡ d) × (rs : Rules) × (parse_policy limit s ≡ rows rs) × (limit < length (form d rs))
-NormaliseRule limit d room s Short =
+NormaliseRule limit d room s (Err Short) =
     (rs : Rules) × (parse_policy limit s ≡ rows rs) × (length (form d rs) ≤ limit) × (room < length (form_file d rs))
 
 -- Accepting a policy file: 'way, out tried first'.
-abbrev pub AcceptRule : ℕ → List ℕ → Acceptance → Type 0
-AcceptRule limit s Accepted =
+abbrev pub AcceptRule : ℕ → List ℕ → Result Unit AcceptError → Type 0
+AcceptRule limit s (Ok u) =
     (rs : Rules) × (parse_policy limit s ≡ rows rs) × (length (form Out rs) ≤ limit) × (length (form In rs) ≤ limit)
-AcceptRule limit s (RefusedFile r) = RefusalRule limit s r
-AcceptRule limit s (RefusedForm Out) = (rs : Rules) × (parse_policy limit s ≡ rows rs) × (limit < length (form Out rs))
-AcceptRule limit s (RefusedForm In) =
+AcceptRule limit s (Err (RefusedFile r)) = RefusalRule limit s r
+AcceptRule limit s (Err (RefusedForm Out)) = (rs : Rules) × (parse_policy limit s ≡ rows rs) × (limit < length (form Out rs))
+AcceptRule limit s (Err (RefusedForm In)) =
     (rs : Rules) × (parse_policy limit s ≡ rows rs) × (length (form Out rs) ≤ limit) × (limit < length (form In rs))

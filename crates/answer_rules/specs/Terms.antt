@@ -1,10 +1,10 @@
 -- Document 01's conditions on packets, pairs and policy files, in its own terms. Assumes nothing: these are definitions.
-use Rattle.std.specs.Prelude.{ℕ, ◌-◌, ◌*◌, ◌/◌, ◌≤◌, ◌<◌, ◌≡◌, true, List, [], map, ◌⊎◌, ◌≢◌, length, get_or, take}
+use Rattle.std.specs.Prelude.{ℕ, ◌-◌, ◌*◌, ◌/◌, ◌≤◌, ◌<◌, ◌≡◌, true, List, [], map, ◌⊎◌, ◌≢◌, length, get_or, take, Result}
 use Rattle.std.proofs.Math.Option.{none, some}
 use Rattle.selectors.specs.Range.{absent, address_size, protocol_size, port_size}
 use Rattle.selectors.specs.Value.{number}
 use Rattle.selectors.specs.declared.Direction.{Direction}
-use Rattle.selectors.specs.declared.Ends.{Ends}
+use Rattle.selectors.specs.declared.ranges.Ends.{Ends}
 use Rattle.packet.specs.Header.{version, header_field, total_length}
 use Rattle.packet.specs.Read.{trigger_of}
 use Rattle.packet.specs.declared.Packet.{Packet}
@@ -15,9 +15,9 @@ use Rattle.policy_text.specs.Format.{row_of}
 use Rattle.policy_text.specs.declared.Edition.{Edition}
 use Rattle.policy_text.specs.Editions.{format_of, row_count, row_lines, parse_policy}
 use Rattle.normal_form_file.specs.Normalise.{normalised}
-use Rattle.normal_form_file.specs.declared.Normalised.{Normalised}
+use Rattle.normal_form_file.specs.declared.NormaliseError.{NormaliseError}
 use Rattle.acceptance.specs.Spd.{accepting}
-use Rattle.acceptance.specs.declared.Acceptance.{Acceptance}
+use Rattle.acceptance.specs.declared.AcceptError.{AcceptError}
 
 -- 'A readable packet (RFC 791) has at least 20 bytes, version 4, header length field at least 5, total length at least 4 times that field
 -- and at most the bytes lent.'
@@ -124,9 +124,9 @@ abbrev pub RowsAre : Edition → List ℕ → List PolicyRow → Type 0
 RowsAre e s rs = map (row_of (format_of e)) (row_lines e s) ≡ map some rs
 
 -- What normalising a file for one direction answers, with room for that many bytes.
-abbrev pub normalised_file : ℕ → Direction → ℕ → List ℕ → Normalised
+abbrev pub normalised_file : ℕ → Direction → ℕ → List ℕ → Result ℕ NormaliseError
 normalised_file limit d room s = normalised limit d room (parse_policy limit s)
 
 -- What a policy file is answered with.
-abbrev pub accepted_file : ℕ → List ℕ → Acceptance
+abbrev pub accepted_file : ℕ → List ℕ → Result Unit AcceptError
 accepted_file limit s = accepting limit (parse_policy limit s)

@@ -1,26 +1,22 @@
 -- Laws of decoding. Assumes nothing.
 use Prim.Native.Nat.{ℕ, zero, suc, ◌+◌, ◌-◌, ◌*◌, ◌/◌, ◌≤◌, ◌<◌}
 use native.Mathlib.Omega.{arith}
-use Rattle.std.specs.Prelude.{◌≡◌, Bool, true, false, ◌↔◌, List, ◌∷◌, ◌++◌, length, get_or, take, drop, []}
+use Rattle.std.specs.Prelude.{◌≡◌, true, false, ◌↔◌, List, ◌∷◌, ◌++◌, length, get_or, take, drop, [], Option, Some, None}
 use Rattle.std.proofs.Math.Path.{refl, sym, ap}
 use Rattle.std.proofs.Common.{◌∙◌, get_or-take, get_or-drop, drop-cons}
 use Rattle.std.proofs.lemmas.Bool.{false≢true}
 use Rattle.selectors.proofs.HeldLaws.{all_ranges, all_values}
-use Rattle.selectors.specs.Value.{number, combination}
+use Rattle.selectors.specs.Value.{combination}
 use Rattle.selectors.specs.Words.{field_count, range_words, values_from, selectors_in, words_of_ranges}
 use Rattle.selectors.proofs.WordsLaws.{AllWords, ranges_exact, selectors_values}
 use Rattle.selectors.specs.declared.Direction.{Direction}
-use Rattle.selectors.specs.declared.Selectors.{Selectors}
-use Rattle.normal_form.specs.Search.{row}
+use Rattle.selectors.specs.declared.Fields.{Fields}
+use Rattle.selectors.specs.declared.Value.{Value}
 use Rattle.policy.specs.Policy.{matches, ordered_search, match_from}
 use Rattle.policy.specs.Words.{action_word, row_at, policy_rows, row_words}
 use Rattle.policy.proofs.WordsLaws.{action-word, action_found, search_match}
-use Rattle.policy.specs.declared.Found.{Found}
-use Rattle.policy.specs.declared.Found.TheVariants.{Row as FoundRow, Nothing}
 use Rattle.cover.specs.Boxes.{ranges_word}
 use Rattle.cover.specs.RangesLaws.{ranges_moved}
-use Rattle.agree.specs.Sides.{range_of}
-use Rattle.layout.specs.Parting.{parting}
 use Rattle.layout.specs.Decode.{row_ranges, active, part_row, part_rows}
 
 -- A row is the same at two places whose words are the same.
@@ -169,19 +165,19 @@ unfolding active matches row_at
 active-matches d ws i vs = rw (all_ranges ws (ranges_word i))
 
 -- The selectors of a point's words are its values.
-pub point_values : (s : Selectors) (ps : List ℕ) → s ≡ selectors_in ps → combination s ≡ values_from ps 0 field_count
-point_values s ps e = ap (λ (r : Selectors). combination r) e ∙ selectors_values ps ∙ sym (all_values ps)
+pub point_values : (s : Fields Value) (ps : List ℕ) → s ≡ selectors_in ps → combination s ≡ values_from ps 0 field_count
+point_values s ps e = ap (λ (r : Fields Value). combination r) e ∙ selectors_values ps ∙ sym (all_values ps)
 
 -- The first match gives the action, and without one it is discard.
-module _ (d : Direction) (ws vs us : List ℕ) (found : Found) (e : vs ≡ us) (m : found ≡ match_from 0 d (policy_rows ws) vs) where
+module _ (d : Direction) (ws vs us : List ℕ) (found : Option ℕ) (e : vs ≡ us) (m : found ≡ match_from 0 d (policy_rows ws) vs) where
   found_action : ordered_search d (policy_rows ws) us ≡ action_found ws found
   found_action = search_match d ws us 0 (length ws / row_words) ∙ ap (action_found ws) (sym (rw e at m))
 
-  pub action-found : (i : ℕ) → found ≡ FoundRow i → get_or ws (i * row_words + 1) 0 ≡ action_word (ordered_search d (policy_rows ws) us)
+  pub action-found : (i : ℕ) → found ≡ Some i → get_or ws (i * row_words + 1) 0 ≡ action_word (ordered_search d (policy_rows ws) us)
   unfolding action_found
   action-found i q = sym (ap action_word (found_action ∙ ap (action_found ws) q) ∙ action-word (get_or ws (i * row_words + 1) 0))
 
-  pub action_missing : found ≡ Nothing → 0 ≡ action_word (ordered_search d (policy_rows ws) us)
+  pub action_missing : found ≡ None → 0 ≡ action_word (ordered_search d (policy_rows ws) us)
   unfolding action_found
   action_missing q = sym (ap action_word (found_action ∙ ap (action_found ws) q))
 

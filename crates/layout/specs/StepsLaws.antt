@@ -1,9 +1,11 @@
 -- Laws of what the layout's steps leave. Assumes nothing.
 use Rattle.std.specs.Prelude.{ℕ, zero, suc, ◌+◌, ◌-◌, ◌*◌, ◌≤◌, ◌<◌, min, ◌≡◌, refl, List, ◌++◌, map, ◌≢◌, length, Ok, Err}
 use native.Mathlib.Omega.{arith}
-use Rattle.std.proofs.Math.Decide.{dec_lt}
-use Rattle.std.proofs.Math.Nat.{min-le_left, min-le_right, le-min}
-use Rattle.std.proofs.Common.{suc-mul, ◌∙◌, ⊎_elim, le-leb}
+use native.Mathlib.Nat.{le_of_lt}
+use Rattle.std.specs.Ordering.{nat_cmp, on, ord_min}
+use Rattle.std.proofs.Math.Decide.{dec_lt, ℕ_discrete}
+use Rattle.std.proofs.Math.Nat.{min-le_left, min-le_right, min-eq_left, min-eq_right, le-min}
+use Rattle.std.proofs.Common.{suc-mul, ◌∙◌, ⊎_elim, le-leb, lt-ltb, le-ltb, eq-eqb, ne_eqb}
 use Rattle.std.proofs.Math.Path.{sym, ap}
 use Rattle.std.proofs.Math.Bool.{true}
 use Rattle.std.proofs.Math.Logic.{inl, inr}
@@ -14,7 +16,7 @@ use Rattle.selectors.specs.Ranges.{ends_range}
 use Rattle.selectors.specs.Value.{number}
 use Rattle.selectors.specs.Words.{field_count, range_words, value_at, ends_at, range_at, ranges_from}
 use Rattle.selectors.specs.declared.Direction.{Direction}
-use Rattle.selectors.specs.declared.Ends.{Ends}
+use Rattle.selectors.specs.declared.ranges.Ends.{Ends}
 use Rattle.selectors.specs.declared.Value.{Value}
 use Rattle.normal_form.specs.Search.{Row}
 use Rattle.normal_form.specs.NormalForm.{under}
@@ -27,6 +29,15 @@ use Rattle.layout.specs.Steps.{AlikeTo, AlikeAmong, SearchAlike, IntervalEnd, Ou
 use Rattle.layout.specs.declared.Kept.{Kept}
 use Rattle.layout.specs.declared.LayoutError.TheVariants.{Over}
 use Rattle.layout.specs.Parting.{Parting}
+
+-- The less of two values.
+pub less-number : (a b v : Value) → v ≡ ord_min (on number nat_cmp) a b → number v ≡ min (number a) (number b)
+less-number a b v e = rw e (by (dec_lt (number b) (number a)) (ℕ_discrete (number b) (number a)))
+  where
+    by : Dec (number b < number a) → Dec (number b ≡ number a) → number (ord_min (on number nat_cmp) a b) ≡ min (number a) (number b)
+    by (yes h) d = rw (lt-ltb (number b) (number a) h) (sym (min-eq_right (le_of_lt h)))
+    by (no h) (yes e) = rw (le-ltb (number b) (number a) (omega arith), eq-eqb (number b) (number a) e) (sym (min-eq_left (omega arith)))
+    by (no h) (no e) = rw (le-ltb (number b) (number a) (omega arith), ne_eqb (number b) (number a) e) (sym (min-eq_left (omega arith)))
 
 -- A range treats alike what is below it, what is above it, and what is in it.
 module _ (r : Range) (from best last : ℕ) (h : from ≤ best) where

@@ -1,5 +1,5 @@
 // How far the values of a field are treated alike: the last value of the interval that begins at one.
-ghost use Rattle.std.specs.Prelude.{◌≡◌, true, ◌/◌, ◌+◌, ◌*◌, ◌≤◌, ◌<◌, min, length};
+ghost use Rattle.std.specs.Prelude.{◌≡◌, true, ◌/◌, ◌+◌, ◌*◌, ◌≤◌, ◌<◌, length};
 ghost use Rattle.selectors.specs.Ranges.{ends_range};
 ghost use Rattle.selectors.specs.Value.{number};
 ghost use Rattle.selectors.specs.Words.{field_count, values_from};
@@ -15,28 +15,18 @@ use crate::lists::{active, row_range};
 use policy::{LIMIT, ROW_WORDS};
 use selectors::{Direction, Ends, Value};
 
-fn smaller(a: Value, b: Value) -> Value
-    ensures { number result ≡ min (number a) (number b) }
-{
-    if a.less(b) {
-        return a;
-    }
-    b
-}
-
 // The last value, up to `best`, to which the range treats all values like `from`.
 fn alike_to(range: Ends, from: Value, best: Value) -> Value
     requires { number from ≤ number best }
     ensures { IntervalEnd (number from) (number best) (number result) (AlikeTo (ends_range range) (number from) (number result)) }
 {
-    if from.less(range.low) {
-        let before = range.low.previous();
-        return smaller(before, best);
+    if from < range.low {
+        return range.low.previous().min(best);
     }
-    if range.high.less(from) {
+    if range.high < from {
         return best;
     }
-    smaller(range.high, best)
+    range.high.min(best)
 }
 
 // The same for the range of a field in a row.
@@ -63,7 +53,7 @@ fn row_end(
     ensures { IntervalEnd (number from) (number best) (number result) (isActive direction rows.now row field (values_from point.now.words 0 field) ≡ true → AlikeTo (range_of rows.now row field) (number from) (number result)) }
 {
     let end = range_end(rows, row, field, from, best);
-    if !end.less(best) {
+    if best <= end {
         return best;
     }
     if !active(rows, row, direction, &point.words, field) {

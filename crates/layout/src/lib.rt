@@ -53,12 +53,10 @@ struct Kept {
     low: Value,
 }
 
-const ZERO: Value = Value { upper: 0, lower: 0 };
-
 const START: Kept = Kept {
     last: 0,
     next: 0,
-    low: ZERO,
+    low: Value::ZERO,
 };
 
 // Lays out what follows the branch's field at its value `from`: the next field, or the leaf where none is left. None: it is known to be what
@@ -116,7 +114,7 @@ fn layout_field(branch: &Branch, room: &mut [u64]) -> Result<usize, LayoutError>
     cutting(branch.first, branch.of_first, field, &mut cuts);
     cutting(branch.second, branch.of_second, field, &mut other_cuts);
     let mut kept = START;
-    let mut from = ZERO;
+    let mut from = Value::ZERO;
     loop {
         let end = interval_end(branch, &cuts, &other_cuts, from, top);
         let base = kept.next * ROW_WORDS;
@@ -126,7 +124,7 @@ fn layout_field(branch: &Branch, room: &mut [u64]) -> Result<usize, LayoutError>
         if limit < next {
             return Err(LayoutError::Over);
         }
-        if !end.less(top) {
+        if end == top {
             stamp(room, kept.last, next, field, kept.low, top);
             return Ok(next);
         }

@@ -11,11 +11,11 @@ ghost use Rattle.layout.specs.Lists.{Lists, Narrowed};
 
 use crate::Point;
 use arrayvec::ArrayVec;
-use policy::{Found, HEAD_WORDS, LIMIT, ROW_WORDS, direction_of, first_match};
+use policy::{HEAD_WORDS, LIMIT, ROW_WORDS, RowDirection, first_match};
 use selectors::words::{
     RANGE_WORDS, SELECTOR_WORDS, VALUE_WORDS, ends_at, put_value, ranges_hold, selectors_of,
 };
-use selectors::{AddressRange, Direction, Ends, Value};
+use selectors::{Direction, Ends, Value};
 
 // The point with another value of a field.
 pub(crate) fn with_value(point: Point, field: usize, value: Value) -> Point
@@ -38,10 +38,8 @@ pub(crate) fn active(
     requires { (field ≤ field_count) × (row * row_words + row_words ≤ length rows.now) }
     ensures { result ≡ isActive direction rows.now row field (values_from point.now 0 field) }
 {
-    if !direction_of(rows[row * ROW_WORDS]).applies_to(direction) {
-        return false;
-    }
-    ranges_hold(rows, row * ROW_WORDS + HEAD_WORDS, point, field)
+    RowDirection::from(rows[row * ROW_WORDS]).applies_to(direction)
+        && ranges_hold(rows, row * ROW_WORDS + HEAD_WORDS, point, field)
 }
 
 // The range of a field in a row. Most of a layout's time goes here: lent as four words, the range is read without a test of its place.
@@ -81,10 +79,7 @@ pub(crate) fn narrow(
 {
     list.clear();
     for &row in old {
-        let range = row_range(rows, usize::from(row), field);
-        let low = range.low;
-        let high = range.high;
-        if (AddressRange { low, high }).holds(value) {
+        if row_range(rows, usize::from(row), field).hold(value) {
             list.push(row);
         }
     }
@@ -101,9 +96,8 @@ pub(crate) fn action_at(rows: &[u64], direction: Direction, point: &Point, list:
     if rows.len() / ROW_WORDS <= LIMIT {
         return 0;
     }
-    let found = first_match(rows, direction, selectors_of(&point.words));
-    let Found::Row(row) = found else {
-        return 0;
-    };
-    rows[row * ROW_WORDS + 1]
+    match first_match(rows, direction, selectors_of(&point.words)) {
+        Some(row) => rows[row * ROW_WORDS + 1],
+        None => 0,
+    }
 }

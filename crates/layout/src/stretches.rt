@@ -8,7 +8,7 @@ ghost use Rattle.layout.specs.Stretches.{Joins, Whole};
 
 use crate::branch::Branch;
 use crate::lists::action_at;
-use crate::{LayoutError, Point, ZERO};
+use crate::{LayoutError, Point};
 use agree::{agree, same_behind};
 use cover::Bounds;
 use policy::{LIMIT, ROW_WORDS};
@@ -63,13 +63,7 @@ pub(crate) fn joined(branch: &Branch, from: Value) -> bool
     let field = branch.field;
     let first = branch.first;
     let second = branch.second;
-    if field + 1 == FIELDS {
-        return false;
-    }
-    if !ZERO.less(from) {
-        return false;
-    }
-    if !all_listed(first, second) {
+    if field + 1 == FIELDS || from == Value::ZERO || !all_listed(first, second) {
         return false;
     }
     let bounds = box_of(&branch.task.highest);

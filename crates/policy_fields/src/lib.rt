@@ -162,7 +162,7 @@ impl RangeText for PortRange {
 }
 
 // An address range may also be address/mask.
-#[tactic(auto, using(policy_text::proofs::BytesLaws::has_any), unfolding(policy_text::specs::Edition1::address_field))]
+#[tactic(auto, using(policy_text::proofs::BytesLaws::has_any, crate::specs::AnswerLaws::unlike_any), unfolding(policy_text::specs::Edition1::address_field))]
 fn address_field(s: &[u8]) -> Option<AddressRange>
     ensures { result ≡ range_for address_of (address_field s.now) }
 {

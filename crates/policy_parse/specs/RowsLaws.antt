@@ -1,6 +1,7 @@
 -- Laws of lines and their rows, and of rows put into a room. Assumes nothing.
 use Prim.Native.Nat.{ℕ, zero, suc, ◌+◌, ◌-◌, ◌*◌, ◌≤◌, ◌<◌}
 use native.Mathlib.Omega.{arith}
+use native.Mathlib.Nat.{sub-zero}
 use Rattle.std.specs.Prelude.{◌≡◌, refl, List, [], ◌∷◌, length, Some, None, Err}
 use Rattle.std.proofs.Common.{ap, ◌∙◌}
 use Rattle.std.proofs.Math.Option.{Option, none, some}
@@ -91,3 +92,6 @@ written_rows room i k (l ∷ ls) rs e =
         let w = line-words l r q in
         let m : (i + 1) * row_words ≡ i * row_words + length (words_of_row r) = omega (arith, w.1) in
         rw (g, w.0) (rec (sets room (i * row_words) (words_of_row r)) rs' p ∙ rw m (sets_more room (i * row_words) (words_of_row r) (words_of rs')))
+
+-- One line of the lines that are left, and none.
+pub ruleset lines = (sub-zero, no_line, bad_line, good_line, written_line, written_none)

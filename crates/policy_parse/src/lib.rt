@@ -18,6 +18,7 @@ use policy_text::{Edition, ParseError, Refusal, Rows, after, before, count};
 const HEADER: &[u8; 9] = b"policy\t1\n";
 
 // The refusal of the first bad row of that many lines, if there is one.
+#[tactic(auto, using(crate::specs::RowsLaws::lines), unfolding(policy_text::specs::Format::rows_of))]
 fn check_rows(body: &[u8], count: usize) -> Result<(), Refusal>
     ensures { result ≡ bad_of (rows_of edition1 1 (lines_of count body.now)) }
 {
@@ -39,6 +40,7 @@ fn put_text(rows: &mut [u64], at: usize, text: Option<Row>)
 }
 
 // The words of that many rows, from the start of the room.
+#[tactic(auto, using(crate::specs::RowsLaws::lines))]
 fn put_rows(body: &[u8], count: usize, rows: &mut [u64])
     requires { count * row_words ≤ length rows.old }
     ensures { rows.new ≡ written rows.old 0 (lines_of count body.now) }
@@ -51,6 +53,7 @@ fn put_rows(body: &[u8], count: usize, rows: &mut [u64])
 }
 
 // What a file is: its refusal, by the tests in their order, or its edition, the count of its rows, and the text of its rows.
+#[tactic(auto, using(crate::specs::FileLaws::unheaded, crate::specs::FileLaws::unended, crate::specs::FileLaws::beyond, crate::specs::FileLaws::with_bad, crate::specs::FileLaws::with_rows))]
 fn examine(bytes: &[u8], limit: usize) -> Result<(Rows, &[u8]), Refusal>
     ensures { MatchResult result
         (λ file. FileIs (parse_policy limit bytes.now) (Ok file.0) × (file.1.now ≡ drop 9 bytes.now))

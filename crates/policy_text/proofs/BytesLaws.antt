@@ -58,19 +58,15 @@ ltb_suc : (a b : ℕ) → ltb a b ≡ ltb (suc a) (suc b)
 ltb_suc a b = grind (arith, nat_tests)
 
 -- Whether a text has a byte, as std's words say it.
-pub has_any : (b : ℕ) (s : List ℕ) → list_any (λ x. eqb x b) s ≡ has b s
+pub has_any : (b : ℕ) (s : List ℕ) → has b s ≡ list_any (λ x. eqb x b) s
 unfolding has index
 has_any b [] = refl
 has_any b (x ∷ s) = by (eqb x b) (has_any b s)
   where
-    by : (e : Bool) → list_any (λ y. eqb y b) s ≡ ltb (index b s) (length s)
-        → (e || list_any (λ y. eqb y b) s) ≡ ltb (cond e zero (suc (index b s))) (suc (length s))
-    by true h = sym (lt-ltb zero (suc (length s)) (omega arith))
-    by false h = h ∙ ltb_suc (index b s) (length s)
-
--- What a test by `contains` says.
-pub has_is : (b : ℕ) (s : List ℕ) {r t : Bool} → r ≡ list_any (λ x. eqb x b) s → r ≡ t → has b s ≡ t
-has_is b s e q = sym (has_any b s) ∙ sym e ∙ q
+    by : (e : Bool) → ltb (index b s) (length s) ≡ list_any (λ y. eqb y b) s
+        → ltb (cond e zero (suc (index b s))) (suc (length s)) ≡ (e || list_any (λ y. eqb y b) s)
+    by true h = lt-ltb zero (suc (length s)) (omega arith)
+    by false h = sym (ltb_suc (index b s) (length s)) ∙ h
 
 -- Whether two texts are the same, as std's `==` says it.
 pub same_pointwise : (s t : List ℕ) → pointwise eqb s t ≡ are_same_bytes s t

@@ -1,5 +1,5 @@
 -- Laws of decimals: one step of a walk over their digits. Assumes nothing.
-use Rattle.std.specs.Prelude.{ℕ, zero, suc, ◌+◌, ◌-◌, ◌*◌, ◌/◌, ◌^◌, ◌≤◌, ◌<◌, ◌≡◌, refl, Bool, true, false, cond, not, ◌&&◌, List, [], ◌∷◌, leb, eqb, length, get_or, drop, Some, None}
+use Rattle.std.specs.Prelude.{ℕ, zero, suc, ◌+◌, ◌-◌, ◌*◌, ◌^◌, ◌≤◌, ◌<◌, ◌≡◌, refl, Bool, true, false, cond, not, ◌&&◌, List, [], ◌∷◌, leb, eqb, length, get_or, drop, Some, None}
 use Rattle.std.specs.Char.{is_ascii_digit}
 use Rattle.std.proofs.Common.{arith, add-one}
 use Rattle.std.proofs.Math.Decide.{ℕ_discrete}
@@ -52,6 +52,9 @@ module _ (max : ℕ) (s : List ℕ) where
   pub decimal_is : unpadded s ≡ true → digits s ≡ true → value 0 s ≤ max → decimal max s ≡ Some (value 0 s)
   unfolding decimal
   decimal_is u d h = rw (u, d, le-leb (value 0 s) max h)
+
+-- One step of reading a decimal, and what it comes to.
+pub ruleset decimals = (digits-next, digits_ended, value-next, value_ended, value_grows, decimal-padded, decimal_other, decimal_above, decimal_is)
 
 -- Padding, by the length.
 pub unpadded_empty : (s : List ℕ) → length s ≡ 0 → unpadded s ≡ false

@@ -13,6 +13,7 @@ pub fn find(s: &[u8], b: u8) -> usize
     s.iter().position(|x| *x == b).unwrap_or(s.len())
 }
 
+#[tactic(auto, unfolding(crate::specs::Bytes::before))]
 pub fn before(s: &[u8], b: u8) -> &[u8]
     ensures { result.now ≡ before b s.now }
 {
@@ -20,6 +21,7 @@ pub fn before(s: &[u8], b: u8) -> &[u8]
     &s[..end]
 }
 
+#[tactic(auto, using(crate::proofs::BytesLaws::part_rest, crate::proofs::BytesLaws::left_none), unfolding(crate::specs::Bytes::after))]
 pub fn after(s: &[u8], b: u8) -> &[u8]
     ensures { result.now ≡ after b s.now }
 {
@@ -30,12 +32,14 @@ pub fn after(s: &[u8], b: u8) -> &[u8]
     &s[end..]
 }
 
+#[tactic(auto, using(crate::proofs::BytesLaws::count_counts))]
 pub fn count(s: &[u8], b: u8) -> usize
     ensures { result ≡ count b s.now }
 {
     s.iter().filter(|x| **x == b).count()
 }
 
+#[tactic(auto, using(crate::proofs::FormatLaws::unpadded_empty, crate::proofs::FormatLaws::unpadded_one, crate::proofs::FormatLaws::unpadded_more))]
 fn unpadded(s: &[u8]) -> bool
     ensures { result ≡ unpadded s.now }
 {
@@ -47,6 +51,7 @@ fn unpadded(s: &[u8]) -> bool
 }
 
 // The number that a text stands for, if it is at most `max`.
+#[tactic(auto, using(crate::proofs::FormatLaws::decimals))]
 pub fn decimal(s: &[u8], max: u16) -> Option<u64>
     ensures value { result ≡ decimal max s.now }
     ensures within { IfSome result (λ n. n ≤ max) }

@@ -6,28 +6,19 @@ use Rattle.std.specs.Prelude.{◌≡◌, Option, Some, None, Err, Bool, is_some,
 use Rattle.std.proofs.Math.Path.{refl, ap}
 use Rattle.std.proofs.Common.{sym, ◌∙◌}
 use Rattle.std.proofs.Math.Bool.{true, false}
+use mathlib.Core.Bool.{and-true, and-false}
 use Rattle.std.specs.Option.{option_map, ok_or}
 use Rattle.std.proofs.lemmas.Option.{none-some, same_Some}
 use Rattle.std.proofs.Math.Dec.{leb}
 use Rattle.std.proofs.lemmas.List.Edits.{sets}
 use borrow.Author.Tests.{lt-ltb, le-leb, lt-leb}
 use Rattle.selectors.specs.Range.{holds}
+use Rattle.selectors.specs.Words.{ranges_at}
 use Rattle.sad.specs.declared.NewPair.{NewPair}
 use Rattle.sad.specs.declared.Head.{Head}
 use Rattle.sad.specs.declared.PairError.{PairError}
 use Rattle.sad.specs.declared.PairError.TheVariants.{ReservedSpi, AlreadyLive, TableFull, BadPair, NothingToRemove}
-use Rattle.sad.specs.Pairs.{Pair, place_count, place_words, ipsec, pair_at, is_live_at, pairs_from, pairs, found_pair, pair_for, place_of, free_place, reserved_spi, well_formed, pair_words, add_outcome, added, remove_outcome, removed, named, live, fitting, named_at, free_at, wanted, before, beats, best_of, head_of, head_beats, first_from, fits_at, Outcome, done}
-
--- What the words of a place say of its pair.
-pub protocol-head : (ws : List ℕ) (i : ℕ) → ipsec (head_of (pair_at ws i)).protocol ≡ is_live_at ws i
-unfolding pair_at
-protocol-head ws i = refl
-
-pub named-head : (ws : List ℕ) (protocol spi i : ℕ)
-    → ipsec (head_of (pair_at ws i)).protocol && (eqb (head_of (pair_at ws i)).protocol protocol && eqb (head_of (pair_at ws i)).spi_in spi)
-    ≡ named_at ws protocol spi i
-unfolding pair_at
-named-head ws protocol spi i = refl
+use Rattle.sad.specs.Pairs.{Pair, place_count, head_words, place_words, ipsec, pair_at, is_live_at, pairs_from, pairs, found_pair, pair_for, place_of, free_place, reserved_spi, well_formed, pair_words, add_outcome, added, remove_outcome, removed, named, live, fitting, named_at, free_at, wanted, before, beats, best_of, head_of, head_beats, first_from, fits_at, Outcome, done}
 
 -- The first of the places that are left is the one, or is passed over, or there is none.
 module _ (test : ℕ → Bool) (i n : ℕ) where
@@ -69,6 +60,12 @@ best-next ws number vs best i h =
     by true l false e = rw (l, best-cons number vs best (pair_at ws i), e)
     by false l b e = rw l
 
+reordered : (l n h b : Bool) → l && (n && h) && b ≡ (l && n && b) && h
+reordered false n h b = refl
+reordered true false h b = refl
+reordered true true h false = and-false h
+reordered true true h true = and-true h
+
 -- The search for the best pair: `best` is the best of the places before, of which the words are the head.
 pub record BestSoFar (ws : List ℕ) (number : ℕ) (vs : List ℕ) (i : ℕ) (head : Option Head) : Type 0 where
   pub best : Option Pair
@@ -81,18 +78,39 @@ module _ (ws : List ℕ) (number : ℕ) (vs : List ℕ) where
   best_none = record { best = None; is-head = refl; rest = refl }
 
   module _ (head : Option Head) (i : ℕ) (so-far : BestSoFar ws number vs i head) where
-    -- Whether the place is one that is better.
-    abbrev Better : Bool → Type 0
-    Better b = (is_live_at ws i && wanted number vs (pair_at ws i) && head_beats (head_of (pair_at ws i)) head) ≡ b
+    Wanted : Bool → Type 0
+    Wanted b = is_live_at ws i && wanted number vs (pair_at ws i) && beats (pair_at ws i) so-far.best ≡ b
 
-    pub best_better : i < place_count → Better true → BestSoFar ws number vs (i + 1) (Some (head_of (pair_at ws i)))
-    best_better h e =
-        let t : is_live_at ws i && wanted number vs (pair_at ws i) && beats (pair_at ws i) so-far.best ≡ true = rw (so-far.is-head, heads_beat) at e in
+    -- Of the place's words, and then of its ranges.
+    abbrev pub Better : Bool → Type 0
+    Better b = (ipsec (head_of (pair_at ws i)).protocol && eqb (head_of (pair_at ws i)).number number && head_beats (head_of (pair_at ws i)) head) ≡ b
+
+    abbrev pub Held : Bool → Type 0
+    Held b = holds (ranges_at ws (i * place_words + head_words)) vs ≡ b
+
+    is-wanted : is_live_at ws i && wanted number vs (pair_at ws i) && beats (pair_at ws i) so-far.best
+        ≡ (ipsec (head_of (pair_at ws i)).protocol && eqb (head_of (pair_at ws i)).number number && head_beats (head_of (pair_at ws i)) head) && holds (ranges_at ws (i * place_words + head_words)) vs
+    unfolding pair_at wanted
+    is-wanted =
+        rw (so-far.is-head, heads_beat)
+        (reordered (is_live_at ws i) (eqb (pair_at ws i).number number) (holds (pair_at ws i).ranges vs) (beats (pair_at ws i) so-far.best))
+
+    pub best_better : i < place_count → Better true → Held true → BestSoFar ws number vs (i + 1) (Some (head_of (pair_at ws i)))
+    unfolding Wanted
+    best_better h e k =
+        let t : Wanted true = is-wanted ∙ rw (e, k) in
         record { best = Some (pair_at ws i); is-head = refl; rest = so-far.rest ∙ best-next ws number vs so-far.best i h ∙ rw t }
 
-    pub best_kept : i < place_count → Better false → BestSoFar ws number vs (i + 1) head
-    best_kept h e =
-        let t : is_live_at ws i && wanted number vs (pair_at ws i) && beats (pair_at ws i) so-far.best ≡ false = rw (so-far.is-head, heads_beat) at e in
+    pub best_passed-over : i < place_count → Better false → BestSoFar ws number vs (i + 1) head
+    unfolding Wanted
+    best_passed-over h e =
+        let t : Wanted false = is-wanted ∙ rw e in
+        record { best = so-far.best; is-head = so-far.is-head; rest = so-far.rest ∙ best-next ws number vs so-far.best i h ∙ rw t }
+
+    pub best_not-held : i < place_count → Held false → BestSoFar ws number vs (i + 1) head
+    unfolding Wanted
+    best_not-held h k =
+        let t : Wanted false = is-wanted ∙ rw (k, and-false) in
         record { best = so-far.best; is-head = so-far.is-head; rest = so-far.rest ∙ best-next ws number vs so-far.best i h ∙ rw t }
 
     pub best_ended : place_count ≤ i → head ≡ option_map head_of (best_of number vs None (pairs ws))

@@ -1,16 +1,14 @@
 -- What holds of a gateway after every sequence of calls. Assumes nothing.
-use Rattle.std.specs.Prelude.{ℕ, ◌*◌, ◌≤◌, ◌≡◌, Bool, true, false, cond, length}
+use Rattle.std.specs.Prelude.{ℕ, ◌*◌, ◌≤◌, ◌≡◌, Bool, true, false, cond, length, Option, Some, None, Result, Ok, Err}
 use Rattle.std.proofs.Common.{arith, sym, ◌∙◌, subst, ⊎_elim}
 use Rattle.std.proofs.Math.Path.{refl, ap}
 use mathlib.Core.List.Memᴰ
 use mathlib.Core.List.{List, [], ◌∷◌, map, Memᴰ}
-use Rattle.std.proofs.Math.Option.{Option, none, some}
 use Rattle.std.proofs.lemmas.List.{length-replicate}
 use Rattle.selectors.specs.declared.Direction.{Direction}
 use Rattle.selectors.specs.declared.Direction.TheVariants.{Out, In}
 use Rattle.packet.specs.Read.{read_packet}
-use Rattle.packet.specs.declared.Reading.{Reading}
-use Rattle.packet.specs.declared.Reading.TheVariants.{Readable, Unreadable}
+use Rattle.packet.specs.declared.Packet.{Packet}
 use Rattle.policy.specs.Policy.{PolicyRow, for_both_ways}
 use Rattle.policy.specs.Words.{policy_rows}
 use Rattle.policy_text.specs.Editions.{Rules, Policy, refused, rows, parse_policy}
@@ -19,8 +17,8 @@ use Rattle.decorrelate.specs.FormLaws.{form_words_rows}
 use Rattle.spd_cache.specs.declared.Cache.{Cache}
 use Rattle.spd_cache.specs.Cache.{cached, empty_cache, looked_up}
 use Rattle.spd_cache.proofs.SlotLaws.{Filled, empty_filled, empty-cached, lookup_filled, lookup_mem}
-use Rattle.acceptance.specs.declared.Acceptance.{Acceptance}
-use Rattle.acceptance.specs.declared.Acceptance.TheVariants.{Accepted, Refused, TooLarge}
+use Rattle.acceptance.specs.declared.AcceptError.{AcceptError}
+use Rattle.acceptance.specs.declared.AcceptError.TheVariants.{Refused, TooLarge}
 use Rattle.acceptance.specs.declared.Caches.{Caches}
 use Rattle.acceptance.specs.Spd.{no_rules, spd_words, spd_after, empty_caches, caches_after, accepting, if_accepted}
 use Rattle.spd.specs.Words.{address_of, rows_of}
@@ -38,24 +36,24 @@ cache_of Out c = c.outbound
 cache_of In c = c.inbound
 
 abbrev pub cache_searched : Direction → List ℕ → Cache → Option (List ℕ) → Cache
-cache_searched d ws c none = c
-cache_searched d ws c (some vs) = (looked_up c ws d vs).cache
+cache_searched d ws c None = c
+cache_searched d ws c (Some vs) = (looked_up c ws d vs).cache
 
 -- The words and the caches after a policy file, by the rows that are accepted.
 abbrev spd_or : ℕ → List ℕ → Option Rules → List ℕ
-spd_or capacity ws none = ws
-spd_or capacity ws (some rs) = spd_words capacity (address_of ws) rs
+spd_or capacity ws None = ws
+spd_or capacity ws (Some rs) = spd_words capacity (address_of ws) rs
 
 abbrev caches_or : Caches → Option Rules → Caches
-caches_or c none = c
-caches_or c (some rs) = empty_caches
+caches_or c None = c
+caches_or c (Some rs) = empty_caches
 
 -- What is taken where a policy is accepted, by whether rows are.
-if-accepted : {A : Type 0} (new old : A) (take : Option Rules → A) (rs : Rules) → take (some rs) ≡ new → take none ≡ old
-    → (a : Acceptance) → if_accepted a new old ≡ take (if_accepted a (some rs) none)
-if-accepted new old take rs p q Accepted = sym p
-if-accepted new old take rs p q (Refused r) = sym q
-if-accepted new old take rs p q (TooLarge d) = sym q
+if-accepted : {A : Type 0} (new old : A) (take : Option Rules → A) (rs : Rules) → take (Some rs) ≡ new → take None ≡ old
+    → (a : Result Unit AcceptError) → if_accepted a new old ≡ take (if_accepted a (Some rs) None)
+if-accepted new old take rs p q (Ok u) = sym p
+if-accepted new old take rs p q (Err (Refused r)) = sym q
+if-accepted new old take rs p q (Err (TooLarge d)) = sym q
 
 spd-settled : (capacity limit : ℕ) (ws : List ℕ) (f : Policy) → spd_after capacity limit ws f ≡ spd_or capacity ws (accepted_rows limit f)
 spd-settled capacity limit ws (refused p) = refl
@@ -66,17 +64,17 @@ caches-settled : (limit : ℕ) (c : Caches) (f : Policy) → caches_after limit 
 caches-settled limit c (refused r) = refl
 caches-settled limit c (rows rs) = if-accepted empty_caches c (caches_or c) rs refl refl (accepting limit (rows rs))
 
-none≢some : (rs : Rules) → ◌≡◌ {A = Option Rules} none (some rs) → ⊥
+none≢some : (rs : Rules) → ◌≡◌ {A = Option Rules} None (Some rs) → ⊥
 none≢some rs e = let z : ◌≡◌ {A = ℕ} 0 1 = cc in omega arith
 
-accepted_within : (limit : ℕ) (f : Policy) (rs : Rules) → accepted_rows limit f ≡ some rs → Within limit rs
+accepted_within : (limit : ℕ) (f : Policy) (rs : Rules) → accepted_rows limit f ≡ Some rs → Within limit rs
 accepted_within limit (refused p) rs e = absurd (none≢some rs e)
 accepted_within limit (rows qs) rs e = by (accepting limit (rows qs)) refl e
   where
-    by : (a : Acceptance) → accepting limit (rows qs) ≡ a → if_accepted a (some qs) none ≡ some rs → Within limit rs
-    by Accepted g h = let same : qs ≡ rs = cc in subst (Within limit) same ((accepted_exactly limit qs).0 g)
-    by (Refused r) g h = absurd (none≢some rs h)
-    by (TooLarge d) g h = absurd (none≢some rs h)
+    by : (a : Result Unit AcceptError) → accepting limit (rows qs) ≡ a → if_accepted a (Some qs) None ≡ Some rs → Within limit rs
+    by (Ok u) g h = let same : qs ≡ rs = cc in subst (Within limit) same ((accepted_exactly limit qs).0 g)
+    by (Err (Refused r)) g h = absurd (none≢some rs h)
+    by (Err (TooLarge d)) g h = absurd (none≢some rs h)
 
 -- The cache of a direction, when a policy with these rules is current: its slots are filled from the first on, and each row that it holds
 -- is one of the normal form's.
@@ -89,8 +87,8 @@ empty_holding d rs = record { filled = empty_filled; rows-of = λ r m. absurd (M
 
 module _ (d : Direction) (rs : Rules) (ws : List ℕ) (is : policy_rows ws ≡ map for_both_ways (form d rs)) where
   search_holding : (c : Cache) → Holding d rs c → (o : Option (List ℕ)) → Holding d rs (cache_searched d ws c o)
-  search_holding c h none = h
-  search_holding c h (some vs) =
+  search_holding c h None = h
+  search_holding c h (Some vs) =
       record {
         filled = lookup_filled c ws d vs h.filled;
         rows-of = λ r m. ⊎_elim (h.rows-of r) (λ q. rw is at q) (lookup_mem c ws d vs h.filled r m);
@@ -121,32 +119,32 @@ out_cache : (c : Cache) (ws : List ℕ) (a : ℕ) (q : _) (p : List ℕ) → (ou
 unfolding outbound_cached
 out_cache c ws a q p = by (read_packet Out p)
   where
-    by : (r : Reading) → outbound_cache c ws r ≡ cache_searched Out ws c (shown_out r)
-    by (Readable k) = refl
-    by Unreadable = refl
+    by : (r : Option Packet) → outbound_cache c ws r ≡ cache_searched Out ws c (shown_out r)
+    by (Some k) = refl
+    by None = refl
 
 in_cache : (c : Cache) (ws : List ℕ) (a : ℕ) (q : _) (p : List ℕ) → (inbound_cached c ws a q p).cache ≡ cache_searched In ws c (searched In a (inbound p))
 unfolding inbound_cached
 in_cache c ws a q p = by (read_packet In p)
   where
-    for : (b : Bool) (vs : List ℕ) → cond b c (looked_up c ws In vs).cache ≡ cache_searched In ws c (cond b none (some vs))
+    for : (b : Bool) (vs : List ℕ) → cond b c (looked_up c ws In vs).cache ≡ cache_searched In ws c (cond b None (Some vs))
     for true vs = refl
     for false vs = refl
 
-    by : (r : Reading) → inbound_cache c ws a r ≡ cache_searched In ws c (shown_in a r)
-    by (Readable k) = for (for_gateway a k) (shows k)
-    by Unreadable = refl
+    by : (r : Option Packet) → inbound_cache c ws a r ≡ cache_searched In ws c (shown_in a r)
+    by (Some k) = for (for_gateway a k) (shows k)
+    by None = refl
 
 -- The policy words and the caches after any call, by what it accepts and what it searches.
 abbrev pub cache_or : Cache → Option Rules → Cache
-cache_or c none = c
-cache_or c (some rs) = empty_cache
+cache_or c None = c
+cache_or c (Some rs) = empty_cache
 
 caches_each : (d : Direction) (c : Caches) (o : Option Rules) → cache_of d (caches_or c o) ≡ cache_or (cache_of d c) o
-caches_each Out c none = refl
-caches_each Out c (some rs) = refl
-caches_each In c none = refl
-caches_each In c (some rs) = refl
+caches_each Out c None = refl
+caches_each Out c (Some rs) = refl
+caches_each In c None = refl
+caches_each In c (Some rs) = refl
 
 module _ (capacity limit : ℕ) where
   pub spd-after : (g : Gateway) (c : Call) → (after capacity limit g c).spd ≡ spd_or capacity g.spd (accepts limit c)
@@ -183,7 +181,7 @@ module _ (capacity limit : ℕ) where
   pair_words-after g (inbound p) h = h
   pair_words-after g (comes_from_sa protocol spi p) h = h
 
-accepts_within : (limit : ℕ) (c : Call) (rs : Rules) → accepts limit c ≡ some rs → Within limit rs
+accepts_within : (limit : ℕ) (c : Call) (rs : Rules) → accepts limit c ≡ Some rs → Within limit rs
 accepts_within limit (policy s) rs e = accepted_within limit (parse_policy limit s) rs e
 accepts_within limit (add p) rs e = absurd (none≢some rs e)
 accepts_within limit (remove protocol spi) rs e = absurd (none≢some rs e)
@@ -205,14 +203,14 @@ module _ (capacity limit : ℕ) (bound : limit ≤ capacity) where
     after_sound c = by (accepts limit c) refl
       where
         by : (o : Option Rules) → accepts limit c ≡ o → Sound capacity limit address (instead rs o) (after capacity limit g c)
-        by none e =
+        by None e =
             record {
               policy-words = spd-after capacity limit g c ∙ rw e s.policy-words;
               within = s.within;
               pair-words = pair_words-after capacity limit g c s.pair-words;
               holding = λ d. rw (cache-after capacity limit d g c, e) (search_holding d rs (rows_of capacity g.spd d) (rows_read d) (cache_of d g.caches) (s.holding d) (searched d (address_of g.spd) c));
             }
-        by (some qs) e =
+        by (Some qs) e =
             record {
               policy-words = spd-after capacity limit g c ∙ rw e (ap (λ (a : ℕ). spd_words capacity a qs) (address_kept capacity limit address rs g s));
               within = accepts_within limit c qs e;

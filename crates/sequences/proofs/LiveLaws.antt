@@ -1,5 +1,5 @@
 -- The table of pairs after any sequence holds the pairs that the calls made live, no two of one name, and at most 64. Assumes nothing.
-use Rattle.std.specs.Prelude.{ℕ, zero, suc, ◌+◌, ◌*◌, ◌≤◌, ◌<◌, ◌≡◌, refl, Bool, true, false, cond, not, ◌⊎◌, leb, eqb, length, get_or, replicate}
+use Rattle.std.specs.Prelude.{ℕ, zero, suc, ◌+◌, ◌*◌, ◌≤◌, ◌<◌, ◌≡◌, refl, Bool, true, false, cond, not, ◌⊎◌, leb, eqb, length, get_or, replicate, Option, Some, None, Ok, Err}
 use Rattle.std.proofs.Common.{arith, sym, ap, ◌∙◌, subst, inl, inr, ⊎_elim, length-append, eqb-true, eq-eqb, lt-ltb, le-ltb}
 use Rattle.std.proofs.Math.Decide.{dec_lt}
 use Rattle.std.proofs.lemmas.Bool.{false≢true}
@@ -8,10 +8,9 @@ use mathlib.Core.List.{List, [], ◌∷◌, ◌++◌, Memᴰ}
 use Rattle.std.proofs.lemmas.List.{length-replicate}
 use Rattle.selectors.proofs.RangeLaws.{both_true}
 use Rattle.sad.specs.declared.NewPair.{NewPair}
-use Rattle.sad.specs.declared.Outcome.{Outcome}
-use Rattle.sad.specs.declared.Outcome.TheVariants.{Done, ReservedSpi, AlreadyLive, TableFull, BadPair, NothingToRemove}
-use Rattle.sad.specs.declared.PairFound.{PairFound}
-use Rattle.sad.specs.declared.PairFound.TheVariants.{Found, Nothing}
+use Rattle.sad.specs.Pairs.{Outcome, done}
+use Rattle.sad.specs.declared.PairError.TheVariants.{ReservedSpi, AlreadyLive, TableFull, BadPair, NothingToRemove}
+use Rattle.sad.specs.declared.Sa.{Sa}
 use Rattle.sad.specs.BestLaws.{Best, pair_for-found, pair_for_nothing}
 use Rattle.sad.specs.TableLaws.{pairs_before, pairs_after, refused_kept, pairs_after_add, pairs_after_remove, nothing_kept}
 use Rattle.sad.specs.Pairs.{Pair, pair_at, is_live_at, before, pair_for, place_count, place_words, pairs_from as placesFrom, pairs, named, live, fitting, reserved_spi, well_formed, new_pair, add_outcome, added, remove_outcome, removed}
@@ -239,9 +238,6 @@ tied q r e f = by (dec_lt q.inbound_spi r.inbound_spi) (dec_lt r.inbound_spi q.i
         absurd (false≢true (sym f ∙ rw (le-ltb r.inbound_spi q.inbound_spi (omega arith), eq-eqb r.inbound_spi q.inbound_spi s, lt-ltb r.protocol q.protocol d)))
     by (no a) (no b) (no c) (no d) = (omega arith, omega arith)
 
-found≢nothing : (a b : ℕ) → Found a b ≡ Nothing → ⊥
-found≢nothing a b e = let z : ◌≡◌ {A = ℕ} 0 1 = cc in omega arith
-
 module _ (qs rs : List Pair) (h : Alike qs rs) (number : ℕ) (vs : List ℕ) where
   one_best : (q r : Pair) → Best number vs qs q → Best number vs rs r → q ≡ r
   one_best q r b c =
@@ -252,28 +248,28 @@ module _ (qs rs : List Pair) (h : Alike qs rs) (number : ℕ) (vs : List ℕ) wh
   pub pair_for_alike : pair_for number vs qs ≡ pair_for number vs rs
   pair_for_alike = by (pair_for number vs qs) refl (pair_for number vs rs) refl
     where
-      by : (x : PairFound) → pair_for number vs qs ≡ x → (y : PairFound) → pair_for number vs rs ≡ y → pair_for number vs qs ≡ pair_for number vs rs
-      by Nothing e Nothing f = e ∙ sym f
-      by (Found a b) e Nothing f =
-          let q = pair_for-found number vs qs a b e in
+      by : (x : Option Sa) → pair_for number vs qs ≡ x → (y : Option Sa) → pair_for number vs rs ≡ y → pair_for number vs qs ≡ pair_for number vs rs
+      by None e None f = e ∙ sym f
+      by (Some a) e None f =
+          let q = pair_for-found number vs qs a.protocol a.spi e in
           absurd (false≢true (sym ((pair_for_nothing number vs rs).0 f q.0 (h.there q.0 q.1.in_list)) ∙ q.1.is-wanted))
-      by Nothing e (Found a b) f =
-          let q = pair_for-found number vs rs a b f in
+      by None e (Some a) f =
+          let q = pair_for-found number vs rs a.protocol a.spi f in
           absurd (false≢true (sym ((pair_for_nothing number vs qs).0 e q.0 (h.back q.0 q.1.in_list)) ∙ q.1.is-wanted))
-      by (Found a b) e (Found c d) f =
-          let q = pair_for-found number vs qs a b e in
-          let r = pair_for-found number vs rs c d f in
+      by (Some a) e (Some c) f =
+          let q = pair_for-found number vs qs a.protocol a.spi e in
+          let r = pair_for-found number vs rs c.protocol c.spi f in
           let s : q.0 ≡ r.0 = one_best q.0 r.0 q.1 r.1 in
-          let p : a ≡ c = sym q.2 ∙ ap (λ (t : Pair). t.protocol) s ∙ r.2 in
-          let o : b ≡ d = sym q.3 ∙ ap (λ (t : Pair). t.outbound_spi) s ∙ r.3 in
+          let p : a.protocol ≡ c.protocol = sym q.2 ∙ ap (λ (t : Pair). t.protocol) s ∙ r.2 in
+          let o : a.spi ≡ c.spi = sym q.3 ∙ ap (λ (t : Pair). t.outbound_spi) s ∙ r.3 in
           e ∙ rw (p, o) (sym f)
 
 -- A pair that is taken is new.
-done_new : (qs : List Pair) (p : NewPair) → add_outcome qs p ≡ Done → live p.protocol p.spi_in qs ≡ false
+done_new : (qs : List Pair) (p : NewPair) → add_outcome qs p ≡ done → live p.protocol p.spi_in qs ≡ false
 unfolding add_outcome
 done_new qs p e = by (reserved_spi p) (well_formed p) (live p.protocol p.spi_in qs) (leb place_count (length qs)) e
   where
-    by : (r w l f : Bool) → cond r ReservedSpi (cond (not w) BadPair (cond l AlreadyLive (cond f TableFull Done))) ≡ Done → l ≡ false
+    by : (r w l f : Bool) → cond r (Err ReservedSpi) (cond (not w) (Err BadPair) (cond l (Err AlreadyLive) (cond f (Err TableFull) done))) ≡ done → l ≡ false
     by true w l f e = let z : ◌≡◌ {A = ℕ} 0 1 = cc in absurd (omega arith)
     by false false l f e = let z : ◌≡◌ {A = ℕ} 0 1 = cc in absurd (omega arith)
     by false true true f e = let z : ◌≡◌ {A = ℕ} 0 1 = cc in absurd (omega arith)
@@ -321,18 +317,18 @@ add_then : (ws : List ℕ) (qs : List Pair) (p : NewPair) → length ws ≡ plac
     → Alike (pairs (added ws p)) (added_to qs p (add_outcome qs p))
 add_then ws qs p size h = rw (sym (add_alike (pairs ws) qs h p)) (by (add_outcome (pairs ws) p) refl)
   where
-    kept : (o : Outcome) → add_outcome (pairs ws) p ≡ o → (o ≡ Done → ⊥) → Alike (pairs (added ws p)) qs
+    kept : (o : Outcome) → add_outcome (pairs ws) p ≡ o → (o ≡ done → ⊥) → Alike (pairs (added ws p)) qs
     kept o e n = rw (refused_kept ws p (λ d. n (sym e ∙ d))) h
 
     by : (o : Outcome) → add_outcome (pairs ws) p ≡ o → Alike (pairs (added ws p)) (added_to qs p o)
-    by Done e =
+    by (Ok u) e =
         let a = pairs_after_add ws p size e in
         rw a.2 (put_alike (pairs_before ws a.0) (pairs_after ws a.0) qs (new_pair p) (rw a.1 at (done_new (pairs ws) p e)) (rw a.1 at h))
-    by ReservedSpi e = kept ReservedSpi e (λ d. let z : ◌≡◌ {A = ℕ} 0 1 = cc in omega arith)
-    by AlreadyLive e = kept AlreadyLive e (λ d. let z : ◌≡◌ {A = ℕ} 0 1 = cc in omega arith)
-    by TableFull e = kept TableFull e (λ d. let z : ◌≡◌ {A = ℕ} 0 1 = cc in omega arith)
-    by BadPair e = kept BadPair e (λ d. let z : ◌≡◌ {A = ℕ} 0 1 = cc in omega arith)
-    by NothingToRemove e = kept NothingToRemove e (λ d. let z : ◌≡◌ {A = ℕ} 0 1 = cc in omega arith)
+    by (Err ReservedSpi) e = kept (Err ReservedSpi) e (λ d. let z : ◌≡◌ {A = ℕ} 0 1 = cc in omega arith)
+    by (Err AlreadyLive) e = kept (Err AlreadyLive) e (λ d. let z : ◌≡◌ {A = ℕ} 0 1 = cc in omega arith)
+    by (Err TableFull) e = kept (Err TableFull) e (λ d. let z : ◌≡◌ {A = ℕ} 0 1 = cc in omega arith)
+    by (Err BadPair) e = kept (Err BadPair) e (λ d. let z : ◌≡◌ {A = ℕ} 0 1 = cc in omega arith)
+    by (Err NothingToRemove) e = kept (Err NothingToRemove) e (λ d. let z : ◌≡◌ {A = ℕ} 0 1 = cc in omega arith)
 
 remove_then : (ws : List ℕ) (qs : List Pair) (protocol spi : ℕ) → length ws ≡ place_count * place_words → Alike (pairs ws) qs
     → Alike (pairs (removed ws protocol spi)) (without protocol spi qs)

@@ -1,5 +1,5 @@
 -- The answer to the next call after any sequence of calls is the one by document 01's rules. Assumes nothing.
-use Rattle.std.specs.Prelude.{ℕ, ◌≤◌, ◌≡◌, true, cond}
+use Rattle.std.specs.Prelude.{ℕ, ◌≤◌, ◌≡◌, true, cond, Option, Some, None}
 use Rattle.std.proofs.Math.Path.{refl, ap}
 use Rattle.std.proofs.Common.{sym, ◌∙◌, subst, ⊎_elim}
 use mathlib.Core.List.Memᴰ
@@ -14,8 +14,6 @@ use Rattle.packet.specs.Read.{read_packet, read_trigger, trigger_of}
 use Rattle.packet.specs.Header.{Bytes}
 use Rattle.packet.specs.ReadLaws.{packet-shows, read_in_fields}
 use Rattle.packet.specs.declared.Packet.{Packet}
-use Rattle.packet.specs.declared.Reading.{Reading}
-use Rattle.packet.specs.declared.Reading.TheVariants.{Readable, Unreadable}
 use Rattle.policy.specs.declared.Action.{Action}
 use Rattle.policy.specs.declared.Action.TheVariants.{Discard, Bypass, Protect}
 use Rattle.policy.specs.ActionLaws.{action-≟}
@@ -62,7 +60,7 @@ module _ (capacity limit : ℕ) (bound : limit ≤ capacity) (address : ℕ) (rs
       ∙ plain
 
 -- What a packet shows is a combination.
-shows-combination : (d : Direction) (p : List ℕ) (k : Packet) → Bytes p → read_packet d p ≡ Readable k → Combination ipv4_sizes (shows k)
+shows-combination : (d : Direction) (p : List ℕ) (k : Packet) → Bytes p → read_packet d p ≡ Some k → Combination ipv4_sizes (shows k)
 unfolding Combination
 shows-combination d p k b e =
     let f = read_in_fields d p k b (packet-shows d p k e) in
@@ -79,34 +77,34 @@ module _ (s t : List ℕ → Action) (qs rs : List Pair) (h : Alike qs rs) (p : 
   action_alike vs Bypass = refl
   action_alike vs (Protect n) = rw (pair_for_alike qs rs h n vs)
 
-  outbound_alike : ((k : Packet) → read_packet Out p ≡ Readable k → s (shows k) ≡ t (shows k)) → outbound_by s qs p ≡ outbound_by t rs p
+  outbound_alike : ((k : Packet) → read_packet Out p ≡ Some k → s (shows k) ≡ t (shows k)) → outbound_by s qs p ≡ outbound_by t rs p
   unfolding outbound_by
   outbound_alike f = by (read_packet Out p) refl
     where
-      by : (r : Reading) → read_packet Out p ≡ r → outbound_read s qs r ≡ outbound_read t rs r
-      by (Readable k) e = rw (f k e) (action_alike (shows k) (t (shows k)))
-      by Unreadable e = refl
+      by : (r : Option Packet) → read_packet Out p ≡ r → outbound_read s qs r ≡ outbound_read t rs r
+      by (Some k) e = rw (f k e) (action_alike (shows k) (t (shows k)))
+      by None e = refl
 
-  inbound_alike : (a : ℕ) → ((k : Packet) → read_packet In p ≡ Readable k → s (shows k) ≡ t (shows k)) → inbound_by s a qs p ≡ inbound_by t a rs p
+  inbound_alike : (a : ℕ) → ((k : Packet) → read_packet In p ≡ Some k → s (shows k) ≡ t (shows k)) → inbound_by s a qs p ≡ inbound_by t a rs p
   unfolding inbound_by to_ipsec
   inbound_alike a f = by (read_packet In p) refl
     where
-      by : (r : Reading) → read_packet In p ≡ r → inbound_read s a qs p r ≡ inbound_read t a rs p r
-      by (Readable k) e = rw (f k e, live_alike qs rs h (number k.selectors.protocol) (spi_of p k))
-      by Unreadable e = refl
+      by : (r : Option Packet) → read_packet In p ≡ r → inbound_read s a qs p r ≡ inbound_read t a rs p r
+      by (Some k) e = rw (f k e, live_alike qs rs h (number k.selectors.protocol) (spi_of p k))
+      by None e = refl
 
 pub from_sa_alike : (qs rs : List Pair) (h : Alike qs rs) (protocol spi : ℕ) (p : List ℕ) → from_sa_by protocol spi qs p ≡ from_sa_by protocol spi rs p
 unfolding from_sa_by
 from_sa_alike qs rs h protocol spi p =
     rw (live_alike qs rs h protocol spi) (ap (λ (v : Verdict). cond (live protocol spi rs) v NoSuchPair) (by (read_packet In p)))
   where
-    triggered : (r : Reading) → trigger_read (fits_pair protocol spi qs) r ≡ trigger_read (fits_pair protocol spi rs) r
-    triggered (Readable k) = rw (fitting_alike qs rs h protocol spi (shows k))
-    triggered Unreadable = refl
+    triggered : (r : Option Packet) → trigger_read (fits_pair protocol spi qs) r ≡ trigger_read (fits_pair protocol spi rs) r
+    triggered (Some k) = rw (fitting_alike qs rs h protocol spi (shows k))
+    triggered None = refl
 
-    by : (r : Reading) → from_sa_read protocol spi qs p r ≡ from_sa_read protocol spi rs p r
-    by (Readable k) = rw (fitting_alike qs rs h protocol spi (shows k), triggered (read_trigger Out (trigger_of p k.upper k.end)))
-    by Unreadable = refl
+    by : (r : Option Packet) → from_sa_read protocol spi qs p r ≡ from_sa_read protocol spi rs p r
+    by (Some k) = rw (fitting_alike qs rs h protocol spi (shows k), triggered (read_trigger Out (trigger_of p k.upper k.end)))
+    by None = refl
 
 -- The gateway after a sequence of calls.
 abbrev pub now : ℕ → ℕ → ℕ → List Call → Gateway

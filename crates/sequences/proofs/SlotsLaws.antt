@@ -1,13 +1,10 @@
 -- The slot rule over sequences: the slots of each cache are what document 01's rule makes of the calls. Assumes nothing.
-use Rattle.std.specs.Prelude.{ℕ, zero, suc, ◌+◌, ◌*◌, ◌≤◌, ◌%◌, ◌≡◌, Bool, true, false, cond}
+use Rattle.std.specs.Prelude.{ℕ, zero, suc, ◌+◌, ◌*◌, ◌≤◌, ◌%◌, ◌≡◌, Bool, true, false, cond, Option, Some, None}
 use Rattle.std.proofs.Common.{arith, ◌∙◌}
 use Rattle.std.proofs.Math.Path.{refl, ap}
 use mathlib.Core.List.{List, [], ◌∷◌, map}
-use Rattle.std.proofs.Math.Option.{Option, none, some}
 use Rattle.selectors.specs.declared.Direction.{Direction}
 use Rattle.selectors.specs.declared.Direction.TheVariants.{Out, In}
-use Rattle.policy.specs.declared.Found.{Found}
-use Rattle.policy.specs.declared.Found.TheVariants.{Row, Nothing}
 use Rattle.policy.specs.Policy.{PolicyRow, matches, match_from, for_both_ways}
 use Rattle.policy.specs.Words.{row_at, rows_from, row_words, policy_rows}
 use Rattle.policy_text.specs.Editions.{Rules}
@@ -27,9 +24,9 @@ abbrev pub slots_of : Cache → Slots
 slots_of c = record { taken = cached c; turn = turn c }
 
 -- A match, as the row that it is.
-abbrev row_found : List ℕ → Found → Option PolicyRow
-row_found ws (Row j) = some (row_at ws (j * row_words))
-row_found ws Nothing = none
+abbrev row_found : List ℕ → Option ℕ → Option PolicyRow
+row_found ws (Some j) = Some (row_at ws (j * row_words))
+row_found ws None = None
 
 first_match : (d : Direction) (ws vs : List ℕ) (i n : ℕ) → first_row d (rows_from ws i n) vs ≡ row_found ws (match_from i d (rows_from ws i n) vs)
 unfolding rows_from first_row match_from
@@ -37,14 +34,14 @@ first_match d ws vs i zero = refl
 first_match d ws vs i (suc n) = by (matches d (row_at ws (i * row_words)) vs) (first_match d ws vs (suc i) n)
   where
     by : (b : Bool) → first_row d (rows_from ws (suc i) n) vs ≡ row_found ws (match_from (suc i) d (rows_from ws (suc i) n) vs)
-        → cond b (some (row_at ws (i * row_words))) (first_row d (rows_from ws (suc i) n) vs)
-        ≡ row_found ws (cond b (Row i) (match_from (suc i) d (rows_from ws (suc i) n) vs))
+        → cond b (Some (row_at ws (i * row_words))) (first_row d (rows_from ws (suc i) n) vs)
+        ≡ row_found ws (cond b (Some i) (match_from (suc i) d (rows_from ws (suc i) n) vs))
     by true ih = refl
     by false ih = ih
 
 -- A lookup does to the slots what the rule says.
 module _ (c : Cache) (f : Filled c) (ws : List ℕ) (d : Direction) (vs : List ℕ) where
-  stored-slots : (j : ℕ) → match_from 0 d (policy_rows ws) vs ≡ Row j → slots_of (stored c ws j) ≡ missed_slots (slots_of c) (some (row_at ws (j * row_words)))
+  stored-slots : (j : ℕ) → match_from 0 d (policy_rows ws) vs ≡ Some j → slots_of (stored c ws j) ≡ missed_slots (slots_of c) (Some (row_at ws (j * row_words)))
   stored-slots j g =
       let t : (turn c + 1) % slot_count % slot_count ≡ (turn c + 1) % slot_count = omega arith in
       rw (stored_rows c ws j f (row_bound ws d vs j g), t)
@@ -52,21 +49,21 @@ module _ (c : Cache) (f : Filled c) (ws : List ℕ) (d : Direction) (vs : List �
   lookup-slots : slots_of (looked_up c ws d vs).cache ≡ tried_slots (slots_of c) (first_row d (cached c) vs) (first_row d (policy_rows ws) vs)
   lookup-slots = by (match_from 0 d (cached c) vs) refl (match_from 0 d (policy_rows ws) vs) refl
     where
-      by : (slot : Found) → match_from 0 d (cached c) vs ≡ slot → (found : Found) → match_from 0 d (policy_rows ws) vs ≡ found
+      by : (slot : Option ℕ) → match_from 0 d (cached c) vs ≡ slot → (found : Option ℕ) → match_from 0 d (policy_rows ws) vs ≡ found
           → slots_of (looked_up c ws d vs).cache ≡ tried_slots (slots_of c) (first_row d (cached c) vs) (first_row d (policy_rows ws) vs)
-      by (Row i) e found g = rw (lookup_hit c ws d vs i e, first_match d (in_use c) vs 0 _, e)
-      by Nothing e (Row j) g = rw (lookup_miss c ws d vs j e g, first_match d (in_use c) vs 0 _, e, first_match d ws vs 0 _, g) (stored-slots j g)
-      by Nothing e Nothing g = rw (lookup_none c ws d vs e g, first_match d (in_use c) vs 0 _, e, first_match d ws vs 0 _, g)
+      by (Some i) e found g = rw (lookup_hit c ws d vs i e, first_match d (in_use c) vs 0 _, e)
+      by None e (Some j) g = rw (lookup_miss c ws d vs j e g, first_match d (in_use c) vs 0 _, e, first_match d ws vs 0 _, g) (stored-slots j g)
+      by None e None g = rw (lookup_none c ws d vs e g, first_match d (in_use c) vs 0 _, e, first_match d ws vs 0 _, g)
 
 module _ (d : Direction) (rs : Rules) (ws : List ℕ) (is : policy_rows ws ≡ map for_both_ways (form d rs)) where
   searched-slots : (c : Cache) → Filled c → (o : Option (List ℕ)) → slots_of (cache_searched d ws c o) ≡ slots_searched d rs (slots_of c) o
-  searched-slots c f none = refl
-  searched-slots c f (some vs) =
+  searched-slots c f None = refl
+  searched-slots c f (Some vs) =
       lookup-slots c f ws d vs ∙ ap (λ (L : List PolicyRow). tried_slots (slots_of c) (first_row d (cached c) vs) (first_row d L vs)) is
 
 emptied-slots : (c : Cache) (o : Option Rules) → slots_of (cache_or c o) ≡ slots_or (slots_of c) o
-emptied-slots c none = refl
-emptied-slots c (some rs) = ap (λ (L : List PolicyRow). record { taken = L; turn = 0 }) empty-cached
+emptied-slots c None = refl
+emptied-slots c (Some rs) = ap (λ (L : List PolicyRow). record { taken = L; turn = 0 }) empty-cached
 
 module _ (capacity limit : ℕ) (bound : limit ≤ capacity) (d : Direction) (address : ℕ) where
   slots-after : (rs : Rules) (g : Gateway) → Sound capacity limit address rs g → (c : Call)
@@ -89,8 +86,8 @@ module _ (capacity limit : ℕ) (bound : limit ≤ capacity) (d : Direction) (ad
       ∙ ap (λ (t : Slots). slots_from limit d address (instead rs (accepts limit c)) t cs) (slots-after rs g s c)
 
 fresh-slots : (d : Direction) → slots_of (cache_of d empty_caches) ≡ no_slots
-fresh-slots Out = emptied-slots empty_cache (some no_rules)
-fresh-slots In = emptied-slots empty_cache (some no_rules)
+fresh-slots Out = emptied-slots empty_cache (Some no_rules)
+fresh-slots In = emptied-slots empty_cache (Some no_rules)
 
 -- After any sequence of calls the slots of each direction are those that the rule makes of the calls.
 pub slot_rule : (capacity limit : ℕ) → limit ≤ capacity → (d : Direction) (address : ℕ) (cs : List Call)

@@ -1,42 +1,40 @@
 -- What stands after a sequence of calls, read off the calls alone, in the paper's terms: the current policy, the live pairs, and the slots
 -- of each direction's cache. Assumes nothing: these are definitions. `limit` is the most rows of a policy and of a normal form (21 and 22).
-use Rattle.std.specs.Prelude.{ℕ, ◌+◌, ◌%◌, cond, List, [], ◌∷◌, map}
-use Rattle.std.proofs.Math.Option.{Option, none, some}
+use Rattle.std.specs.Prelude.{ℕ, ◌+◌, ◌%◌, cond, List, [], ◌∷◌, map, Option, Some, None, Ok, Err}
 use Rattle.selectors.specs.declared.Direction.{Direction}
 use Rattle.selectors.specs.declared.Direction.TheVariants.{Out, In}
 use Rattle.packet.specs.Read.{read_packet}
 use Rattle.packet.specs.Header.{Bytes}
-use Rattle.packet.specs.declared.Reading.{Reading}
-use Rattle.packet.specs.declared.Reading.TheVariants.{Readable, Unreadable}
+use Rattle.packet.specs.declared.Packet.{Packet}
 use Rattle.policy.specs.Policy.{PolicyRow, matches, ordered_search, for_both_ways}
 use Rattle.policy_text.specs.Editions.{Rules, Policy, refused, rows, parse_policy}
 use Rattle.decorrelate.specs.Form.{form}
 use Rattle.spd_cache.specs.Cache.{slot_count, replaced}
 use Rattle.acceptance.specs.Spd.{no_rules, accepting, if_accepted}
 use Rattle.sad.specs.declared.NewPair.{NewPair}
-use Rattle.sad.specs.declared.Outcome.{Outcome}
-use Rattle.sad.specs.declared.Outcome.TheVariants.{Done, ReservedSpi, AlreadyLive, TableFull, BadPair, NothingToRemove}
+use Rattle.sad.specs.Pairs.{Outcome, done}
+use Rattle.sad.specs.declared.PairError.TheVariants.{ReservedSpi, AlreadyLive, TableFull, BadPair, NothingToRemove}
 use Rattle.sad.specs.Pairs.{Pair, named, add_outcome, remove_outcome, new_pair}
 use Rattle.verdicts.specs.Calls.{shows, for_gateway, outbound_by, inbound_by, from_sa_by}
 use Rattle.sequences.specs.Sequence.{Call, policy, add, remove, outbound, inbound, comes_from_sa, Answer, for_policy, for_pair, for_packet}
 
 -- The rules of a file that is accepted: one that 23, 24, 21, 20 and 22 let through.
 abbrev pub accepted_rows : ℕ → Policy → Option Rules
-accepted_rows limit (refused p) = none
-accepted_rows limit (rows rs) = if_accepted (accepting limit (rows rs)) (some rs) none
+accepted_rows limit (refused p) = None
+accepted_rows limit (rows rs) = if_accepted (accepting limit (rows rs)) (Some rs) None
 
 abbrev pub accepts : ℕ → Call → Option Rules
 accepts limit (policy s) = accepted_rows limit (parse_policy limit s)
-accepts limit (add p) = none
-accepts limit (remove protocol spi) = none
-accepts limit (outbound p) = none
-accepts limit (inbound p) = none
-accepts limit (comes_from_sa protocol spi p) = none
+accepts limit (add p) = None
+accepts limit (remove protocol spi) = None
+accepts limit (outbound p) = None
+accepts limit (inbound p) = None
+accepts limit (comes_from_sa protocol spi p) = None
 
 -- The current policy: the rules of the last accepted file.
 abbrev pub instead : {A : Type 0} → A → Option A → A
-instead a none = a
-instead a (some b) = b
+instead a None = a
+instead a (Some b) = b
 
 unfoldable pub current_from : ℕ → Rules → List Call → Rules
 current_from limit rs [] = rs
@@ -48,12 +46,12 @@ current limit cs = current_from limit no_rules cs
 
 -- The live pairs: each that was added, and was not removed since. A refusal changes nothing.
 abbrev pub added_to : List Pair → NewPair → Outcome → List Pair
-added_to qs p Done = new_pair p ∷ qs
-added_to qs p ReservedSpi = qs
-added_to qs p AlreadyLive = qs
-added_to qs p TableFull = qs
-added_to qs p BadPair = qs
-added_to qs p NothingToRemove = qs
+added_to qs p (Ok u) = new_pair p ∷ qs
+added_to qs p (Err ReservedSpi) = qs
+added_to qs p (Err AlreadyLive) = qs
+added_to qs p (Err TableFull) = qs
+added_to qs p (Err BadPair) = qs
+added_to qs p (Err NothingToRemove) = qs
 
 unfoldable pub without : ℕ → ℕ → List Pair → List Pair
 without protocol spi [] = []
@@ -76,28 +74,28 @@ abbrev pub live_pairs : List Call → List Pair
 live_pairs cs = pairs_from [] cs
 
 -- The values that a call searches in a direction, where it does: 'used by the one door that searches that way'.
-abbrev pub shown_out : Reading → Option (List ℕ)
-shown_out (Readable k) = some (shows k)
-shown_out Unreadable = none
+abbrev pub shown_out : Option Packet → Option (List ℕ)
+shown_out (Some k) = Some (shows k)
+shown_out None = None
 
 -- AH or ESP for the gateway is not searched.
-abbrev pub shown_in : ℕ → Reading → Option (List ℕ)
-shown_in address (Readable k) = cond (for_gateway address k) none (some (shows k))
-shown_in address Unreadable = none
+abbrev pub shown_in : ℕ → Option Packet → Option (List ℕ)
+shown_in address (Some k) = cond (for_gateway address k) None (Some (shows k))
+shown_in address None = None
 
 abbrev pub searched : Direction → ℕ → Call → Option (List ℕ)
 searched Out address (outbound p) = shown_out (read_packet Out p)
 searched In address (inbound p) = shown_in address (read_packet In p)
-searched Out address (policy s) = none
-searched Out address (add p) = none
-searched Out address (remove protocol spi) = none
-searched Out address (inbound p) = none
-searched Out address (comes_from_sa protocol spi p) = none
-searched In address (policy s) = none
-searched In address (add p) = none
-searched In address (remove protocol spi) = none
-searched In address (outbound p) = none
-searched In address (comes_from_sa protocol spi p) = none
+searched Out address (policy s) = None
+searched Out address (add p) = None
+searched Out address (remove protocol spi) = None
+searched Out address (inbound p) = None
+searched Out address (comes_from_sa protocol spi p) = None
+searched In address (policy s) = None
+searched In address (add p) = None
+searched In address (remove protocol spi) = None
+searched In address (outbound p) = None
+searched In address (comes_from_sa protocol spi p) = None
 
 -- The slots of a cache: the rows in use, and the slot whose turn it is.
 pub record Slots : Type 0 where
@@ -109,28 +107,28 @@ no_slots = record { taken = []; turn = 0 }
 
 -- The first of some rows that matches.
 unfoldable pub first_row : Direction → List PolicyRow → List ℕ → Option PolicyRow
-first_row d [] vs = none
-first_row d (r ∷ rs) vs = cond (matches d r vs) (some r) (first_row d rs vs)
+first_row d [] vs = None
+first_row d (r ∷ rs) vs = cond (matches d r vs) (Some r) (first_row d rs vs)
 
 -- 'A hit changes nothing. A miss that finds a row writes it to the slot whose turn it is, and the turn moves on, round after 32. A miss
 -- without a row changes nothing.'
 abbrev pub missed_slots : Slots → Option PolicyRow → Slots
-missed_slots s none = s
-missed_slots s (some r) = record { taken = replaced s.taken s.turn r; turn = (s.turn + 1) % slot_count }
+missed_slots s None = s
+missed_slots s (Some r) = record { taken = replaced s.taken s.turn r; turn = (s.turn + 1) % slot_count }
 
 abbrev pub tried_slots : Slots → Option PolicyRow → Option PolicyRow → Slots
-tried_slots s (some hit) found = s
-tried_slots s none found = missed_slots s found
+tried_slots s (Some hit) found = s
+tried_slots s None found = missed_slots s found
 
 -- A search of values under a policy: the row that a miss finds is one of the normal form's.
 abbrev pub slots_searched : Direction → Rules → Slots → Option (List ℕ) → Slots
-slots_searched d rs s none = s
-slots_searched d rs s (some vs) = tried_slots s (first_row d s.taken vs) (first_row d (map for_both_ways (form d rs)) vs)
+slots_searched d rs s None = s
+slots_searched d rs s (Some vs) = tried_slots s (first_row d s.taken vs) (first_row d (map for_both_ways (form d rs)) vs)
 
 -- 'An accepted policy empties both caches, sets both turns to the first slot.'
 abbrev pub slots_or : Slots → Option Rules → Slots
-slots_or s none = s
-slots_or s (some rs) = no_slots
+slots_or s None = s
+slots_or s (Some rs) = no_slots
 
 -- The slots after a sequence of calls on a gateway with this address, from a policy and slots on.
 unfoldable pub slots_from : ℕ → Direction → ℕ → Rules → Slots → List Call → Slots

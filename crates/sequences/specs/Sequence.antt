@@ -2,20 +2,19 @@
 -- Each call does what the contract of its function says: `acceptance::accept`, `sad::add`, `sad::remove`, `gateway::outbound`, `inbound`, `from_sa`,
 -- with any `capacity`, how many rows the words of its policy carry for each direction, and any `limit`, the most rows of a policy and of a
 -- normal form (21 and 22). The contracts have both at `row_limit`.
-use Rattle.std.specs.Prelude.{ℕ, ◌*◌, List, [], ◌∷◌, replicate}
+use Rattle.std.specs.Prelude.{ℕ, ◌*◌, List, [], ◌∷◌, replicate, Result}
 use Rattle.selectors.specs.declared.Direction.TheVariants.{Out, In}
 use Rattle.policy_text.specs.Editions.{parse_policy}
-use Rattle.acceptance.specs.declared.Acceptance.{Acceptance}
+use Rattle.acceptance.specs.declared.AcceptError.{AcceptError}
 use Rattle.acceptance.specs.declared.Caches.{Caches}
 use Rattle.acceptance.specs.Spd.{spd_words, no_rules, accepting, spd_after, empty_caches, caches_after, acceptance_number}
 use Rattle.spd.specs.Words.{rows_of, address_of}
 use Rattle.sad.specs.declared.NewPair.{NewPair}
-use Rattle.sad.specs.declared.Outcome.{Outcome}
+use Rattle.sad.specs.Pairs.{Outcome, done}
 use Rattle.sad.specs.Pairs.{place_count, place_words, pairs, add_outcome, added, remove_outcome, removed, outcome_number}
-use Rattle.gateway.specs.declared.Answered.{Answered}
 use Rattle.verdicts.specs.declared.Verdict.{Verdict}
 use Rattle.verdicts.specs.Calls.{from_sa_by}
-use Rattle.gateway.specs.Cached.{outbound_cached, inbound_cached}
+use Rattle.gateway.specs.Cached.{Answered, outbound_cached, inbound_cached}
 use Rattle.verdicts.specs.Verdict.{verdict_number}
 
 -- What a gateway is: the words of its policy and of its pairs, and its caches.
@@ -44,7 +43,7 @@ comes_in capacity g p = inbound_cached g.caches.inbound (rows_of capacity g.spd 
 
 -- The answer to a call.
 pub data Answer : Type 0 where
-  for_policy : Acceptance → Answer
+  for_policy : Result Unit AcceptError → Answer
   for_pair : Outcome → Answer
   for_packet : Verdict → Answer
 

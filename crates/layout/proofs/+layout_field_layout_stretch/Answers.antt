@@ -5,7 +5,7 @@ use mathlib.Core.Path.{◌≡◌, refl, sym, ◌∙◌, ap}
 use lib.ListN.{length}
 use Rattle.std.specs.Prelude.{Ok}
 use Rattle.std.proofs.lemmas.Result.{err_from_is_err_and}
-use borrow.Author.Tests.{ltb-true, ltb-false}
+use Rattle.std.proofs.lemmas.Bool.{eqb-true, eqb-false}
 use borrow.Rule.Slice.PartMut.{same_len_mid}
 use Rattle.selectors.proofs.ValueLaws.{Words, number_bound}
 use Rattle.selectors.specs.Value.{number}
@@ -97,16 +97,15 @@ layout_field-stamp-requires t c =
     let back = same_len_mid (c.loop-laid.kept.next * row_words) (length c.loop-laid.room - c.loop-laid.kept.next * row_words) c.loop-laid.room c.layout_stretch.new.room c.layout_stretch.auto.room in
     (c.requires.field_lt_field_count, (placed.ordered, omega (arith, r.start, c.if-limit-next.false, c.place_stretch-kept.auto.room, back)))
 
-pub layout_field-returns-then-not-less : goal.layout_field-returns-then-not-less
-layout_field-returns-then-not-less t c =
+pub layout_field-returns-then-eq : goal.layout_field-returns-then-eq
+layout_field-returns-then-eq t c =
     let r = room_for _ _ _ _ _ c.requires.field_lt_field_count c.loop-laid.invariant.few c.requires.field_in_bounds c.loop-laid.invariant.whole in
     let b = c.args.branch.now in
     let e = c.interval_end-end.ensures in
     let placed : Progress b.first.now b.second.now b.task.now (values_from b.point.words 0 b.field) b.field c.place_stretch-kept.new.room c.place_stretch-kept.result (number c.interval_end-end.result + 1) =
     turn_stretch _ _ _ _ _ c.requires.field_lt_field_count _ _ e.reaches e.alike _ _ _ _ _ _ b.task.now.limit c.loop-laid.invariant.progress (omega (arith, r.start))
     (rw c.layout_stretch.auto.room r.enough) _ _ c.in_ok-laid.was c.layout_stretch.ensures c.place_stretch-kept.ensures in
-    let g = ltb-false (number c.interval_end-end.result) (number c.value_at-top.result) (sym c.less.ensures ∙ c.if-not-less.true) in
-    let q : number c.interval_end-end.result ≡ number c.value_at-top.result = omega (arith, e.within, g) in
+    let q = eqb-true (number c.interval_end-end.result) (number c.value_at-top.result) (sym c.eq.ensures ∙ c.if-eq.true) in
     laid_out _ _ _ _ _ c.requires.field_lt_field_count _ _ _ _ _ (ap number c.value_at-top.ensures) (rw q at placed) c.if-limit-next.false c.stamp.ensures
 
 pub layout_field-loop-laid-smaller : goal.layout_field-loop-laid-smaller
@@ -114,7 +113,7 @@ layout_field-loop-laid-smaller t c =
     let v = c.value_at-top in
     let b : Words v.result = record { upper_fits = omega (arith, v.type_inv); lower_fits = omega (arith, v.type_inv) } in
     let w = number_bound v.result b in
-    let g : number c.interval_end-end.result < number v.result = ltb-true (number c.interval_end-end.result) (number v.result) (sym c.less.ensures ∙ c.if-not-less.false) in
+    let g : number c.interval_end-end.result < number v.result = omega (arith, c.interval_end-end.ensures.within, eqb-false (number c.interval_end-end.result) (number v.result) (sym c.eq.ensures ∙ c.if-eq.false)) in
     let f : number c.next-from.result ≡ number c.interval_end-end.result + 1 = one_more (2 ^ 128) _ _ _ c.next-from.ensures g w in
     omega (arith, f, g, c.interval_end-end.ensures.reaches)
 
@@ -130,7 +129,7 @@ layout_field-loop-laid-preserved t c =
     let v = c.value_at-top in
     let k : Words v.result = record { upper_fits = omega (arith, v.type_inv); lower_fits = omega (arith, v.type_inv) } in
     let w = number_bound v.result k in
-    let g : number c.interval_end-end.result < number v.result = ltb-true (number c.interval_end-end.result) (number v.result) (sym c.less.ensures ∙ c.if-not-less.false) in
+    let g : number c.interval_end-end.result < number v.result = omega (arith, c.interval_end-end.ensures.within, eqb-false (number c.interval_end-end.result) (number v.result) (sym c.eq.ensures ∙ c.if-eq.false)) in
     let f : number c.next-from.result ≡ number c.interval_end-end.result + 1 = one_more (2 ^ 128) _ _ _ c.next-from.ensures g w in
     record { whole = c.place_stretch-kept.auto.room ∙ back ∙ c.loop-laid.invariant.whole; few = c.if-limit-next.false; in_range = omega (arith, f, g); progress = rw f placed }
 

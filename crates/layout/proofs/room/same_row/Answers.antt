@@ -9,7 +9,7 @@ use Rattle.std.proofs.lemmas.Bool.Decides.{Decides-eqb}
 use Rattle.selectors.specs.Words.{field_count}
 use Rattle.policy.specs.Words.{row_words}
 use Rattle.cover.specs.Boxes.{ranges_word}
-use Rattle.layout.specs.DecodeLaws.{never, same-row_heads, same-row_fields, same-row}
+use Rattle.layout.specs.DecodeLaws.{same-row_heads, same-row_fields, same-row}
 use Rattle.layout.proofs.room.same_row.Goals as goal
 
 pub returns-then-eq : goal.returns-then-eq

@@ -2,7 +2,7 @@
 use Prim.Native.Nat.{◌<◌}
 use native.Mathlib.Omega.{arith}
 use mathlib.Core.Path.{sym, ◌∙◌}
-use borrow.Author.Tests.{ltb-true}
+use Rattle.std.proofs.lemmas.Bool.{eqb-false}
 use Rattle.selectors.specs.Value.{number}
 use Rattle.layout.specs.AlikeLaws.{alike_joined}
 use Rattle.layout.specs.FormLaws.{values_length}
@@ -15,5 +15,6 @@ returns-then-same_behind c e =
     let b = c.args.branch.now in
     let few = c.all_listed.ensures c.if-not-all_listed.false in
     let v = c.previous-below.ensures in
-    let more : 0 < number c.args.from = ltb-true _ _ (sym c.less.ensures ∙ c.if-not-less.false) in
+    let apart = eqb-false (number c.args.from) 0 (sym c.eq.ensures ∙ c.if-eq.false) in
+    let more : 0 < number c.args.from = omega arith in
     (more, rw v at (alike_joined _ _ b.task.now _ _ (values_length _ 0 _) _ c.box_of-bounds.ensures few.0 few.1 _ _ b.listed.of-first b.listed.of-second (omega (arith, c.requires)) _ _ (c.same_behind.ensures c.if-same_behind.true) (c.same_behind-then-same_behind.ensures e)))
