@@ -23,9 +23,6 @@ pub layout_field-loop-laid-init : goal.layout_field-loop-laid-init
 unfolding number
 layout_field-loop-laid-init t c = record { whole = refl; few = omega arith; in_range = omega arith; progress = progress_start _ _ _ _ _ _ _ _ refl refl refl }
 
-pub layout_field-interval_end-end-requires-clause-field_lt_field_count : goal.layout_field-interval_end-end-requires-clause-field_lt_field_count
-layout_field-interval_end-end-requires-clause-field_lt_field_count t c = (c.requires.field_lt_field_count, c.loop-laid.invariant.in_range)
-
 pub layout_field-interval_end-end-requires-clause-cuts_at : goal.layout_field-interval_end-end-requires-clause-cuts_at
 layout_field-interval_end-end-requires-clause-cuts_at t c =
     let b = c.args.branch.now in
