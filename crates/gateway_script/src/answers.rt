@@ -1,7 +1,7 @@
 // The answer to an operation: document 01's number, and what the answer carries.
-use acceptance::Acceptance;
+use acceptance::AcceptError;
 use policy_text::Refusal;
-use sad::Outcome;
+use sad::PairError;
 use selectors::Direction;
 use std::fmt;
 use std::fmt::{Display, Formatter};
@@ -10,8 +10,8 @@ use verdicts::Verdict;
 #[derive(Clone, Copy)]
 pub enum Answer {
     Fresh,
-    Policy(Acceptance),
-    Pair(Outcome),
+    Policy(Result<(), AcceptError>),
+    Pair(Result<(), PairError>),
     Packet(Verdict),
 }
 
@@ -19,12 +19,12 @@ impl Display for Answer {
     fn fmt<W: fmt::Write>(&self, f: &mut Formatter<W>) -> fmt::Result {
         match *self {
             Answer::Fresh => f.write_str("ok"),
-            Answer::Policy(acceptance) => {
-                write!(f, "{}", answer_numbers::acceptance_number(acceptance))?;
-                match acceptance {
-                    Acceptance::Refused(Refusal::BadRow(row)) => write!(f, " {row}"),
-                    Acceptance::TooLarge(Direction::Out) => f.write_str(" out"),
-                    Acceptance::TooLarge(Direction::In) => f.write_str(" in"),
+            Answer::Policy(accepted) => {
+                write!(f, "{}", answer_numbers::acceptance_number(accepted))?;
+                match accepted {
+                    Err(AcceptError::Refused(Refusal::BadRow(row))) => write!(f, " {row}"),
+                    Err(AcceptError::TooLarge(Direction::Out)) => f.write_str(" out"),
+                    Err(AcceptError::TooLarge(Direction::In)) => f.write_str(" in"),
                     _ => Ok(()),
                 }
             }

@@ -3,7 +3,7 @@ ghost use Rattle.std.specs.Prelude.{◌≡◌, IfNone, replicate};
 ghost use Rattle.policy.specs.Words.{row_limit};
 ghost use Rattle.policy_text.specs.Editions.{parse_policy};
 ghost use Rattle.sad.specs.Pairs.{table_words, pairs, add_outcome, added, remove_outcome, removed};
-ghost use Rattle.acceptance.specs.Spd.{spd_words, no_rules, empty_caches, spd_after, caches_after};
+ghost use Rattle.acceptance.specs.Spd.{spd_words, no_rules, empty_caches, accepting, spd_after, caches_after};
 ghost use Rattle.spd.specs.Words.{rows_of, address_of};
 ghost use Rattle.verdicts.specs.Calls.{from_sa_by};
 ghost use Rattle.gateway.specs.Cached.{outbound_cached, inbound_cached};
@@ -77,31 +77,26 @@ impl Gateway {
     }
 
     fn accept(&mut self, file: &[u8]) -> Answer
+        ensures value { result ≡ Answer.Policy (accepting row_limit (parse_policy row_limit file.now)) }
         ensures caches_after { self.new.caches ≡ caches_after row_limit self.old.caches (parse_policy row_limit file.now) }
         ensures policy_after { self.new.policy ≡ spd_after row_limit row_limit self.old.policy (parse_policy row_limit file.now) }
         ensures table_after { self.new.table ≡ self.old.table }
     {
-        let settled = acceptance::accept(&mut self.policy, self.caches, file);
-        self.caches = settled.caches;
-        Answer::Policy(settled.acceptance)
+        Answer::Policy(acceptance::accept(&mut self.policy, &mut self.caches, file))
     }
 
     fn outbound(&mut self, packet: &[u8]) -> Answer
         ensures value { result ≡ Answer.Packet (outbound_cached self.old.caches.outbound (rows_of row_limit self.old.policy Direction.Out) (pairs self.old.table) packet.now).verdict }
         ensures after { self.new ≡ record self.old { caches = record self.old.caches { outbound = (outbound_cached self.old.caches.outbound (rows_of row_limit self.old.policy Direction.Out) (pairs self.old.table) packet.now).cache } } }
     {
-        let answered = gateway::outbound(&self.policy, &self.table, self.caches.outbound, packet);
-        self.caches.outbound = answered.cache;
-        Answer::Packet(answered.verdict)
+        Answer::Packet(gateway::outbound(&self.policy, &self.table, &mut self.caches.outbound, packet))
     }
 
     fn inbound(&mut self, packet: &[u8]) -> Answer
         ensures value { result ≡ Answer.Packet (inbound_cached self.old.caches.inbound (rows_of row_limit self.old.policy Direction.In) (address_of self.old.policy) (pairs self.old.table) packet.now).verdict }
         ensures after { self.new ≡ record self.old { caches = record self.old.caches { inbound = (inbound_cached self.old.caches.inbound (rows_of row_limit self.old.policy Direction.In) (address_of self.old.policy) (pairs self.old.table) packet.now).cache } } }
     {
-        let answered = gateway::inbound(&self.policy, &self.table, self.caches.inbound, packet);
-        self.caches.inbound = answered.cache;
-        Answer::Packet(answered.verdict)
+        Answer::Packet(gateway::inbound(&self.policy, &self.table, &mut self.caches.inbound, packet))
     }
 
     fn from_sa(&self, protocol: u64, spi: u32, packet: &[u8]) -> Answer

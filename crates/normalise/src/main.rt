@@ -7,14 +7,14 @@
 // a normal-form file has its header line at least.
 #![tactic(auto)]
 
-ghost use Rattle.std.specs.Prelude.{◌≡◌};
+ghost use Rattle.std.specs.Prelude.{◌≡◌, Err};
 ghost use Rattle.policy.specs.Words.{row_limit};
 ghost use Rattle.normal_form_file.specs.Normalise.{normalised};
 ghost use Rattle.policy_text.specs.Editions.{parse_policy};
 ghost use Rattle.normalise.specs.Command.{direction_asked};
 ghost use Rattle.normalise.specs.RoomLaws.{form_bytes, Answered, IsFormFile};
 
-use normal_form_file::Normalised;
+use normal_form_file::NormaliseError;
 use policy::LIMIT;
 use policy_text::Refusal;
 use program_input::{Reason, read_full};
@@ -56,7 +56,7 @@ fn is_given(rt: &impl Env, number: usize) -> bool {
 }
 
 // The direction that a word asks for.
-#[tactic(auto, using(crate::proofs::TextLaws::same_pointwise))]
+#[tactic(auto, using(policy_text::proofs::BytesLaws::same_pointwise))]
 fn direction_asked(word: &[u8]) -> Option<Direction>
     ensures { result ≡ direction_asked word.now }
 {
@@ -114,15 +114,14 @@ fn from_input(rt: &HostRuntime, source: &mut impl Read, name: &str, direction: D
 // Writes the normal-form file, or the line of the refusal.
 fn print_normal_form(rt: &HostRuntime, policy: &[u8], direction: Direction) {
     let mut text = [0u8; FORM_BYTES];
-    let answer = normal_form(policy, direction, &mut text);
-    match answer {
-        Normalised::Printed(count) => write_file(rt, &text[..count], policy, direction),
-        _ => refuse(rt, answer, policy, direction),
+    match normal_form(policy, direction, &mut text) {
+        Ok(count) => write_file(rt, &text[..count], policy, direction),
+        Err(error) => refuse(rt, error, policy, direction),
     }
 }
 
 // The room is never too short.
-fn normal_form(policy: &[u8], direction: Direction, text: &mut [u8; FORM_BYTES]) -> Normalised
+fn normal_form(policy: &[u8], direction: Direction, text: &mut [u8; FORM_BYTES]) -> Result<usize, NormaliseError>
     ensures value { result ≡ normalised row_limit direction form_bytes (parse_policy row_limit policy.now) }
     ensures answered { Answered direction (parse_policy row_limit policy.now) text.new result }
 {
@@ -139,30 +138,27 @@ fn write_file(rt: &HostRuntime, text: &[u8], policy: &[u8], direction: Direction
 }
 
 // The line of a refusal: document 01's answer for the policy file and the direction.
-fn refuse(rt: &impl Eprint, answer: Normalised, policy: &[u8], direction: Direction)
-    requires { answer ≡ normalised row_limit direction form_bytes (parse_policy row_limit policy.now) }
+fn refuse(rt: &impl Eprint, error: NormaliseError, policy: &[u8], direction: Direction)
+    requires { Err error ≡ normalised row_limit direction form_bytes (parse_policy row_limit policy.now) }
 {
-    let number = answer_numbers::normalised_number(answer);
-    say(rt, format_args!("{number}: {}", Meaning(answer)));
+    let number = answer_numbers::normalised_number(Err(error));
+    say(rt, format_args!("{number}: {}", Meaning(error)));
 }
 
-// Document 01's words for an answer, with what it carries.
+// Document 01's words for a refusal, with what it carries.
 #[derive(Clone, Copy)]
-struct Meaning(Normalised);
+struct Meaning(NormaliseError);
 
 impl Display for Meaning {
     fn fmt<W: fmt::Write>(&self, f: &mut Formatter<W>) -> fmt::Result {
         match self.0 {
-            Normalised::Printed(count) => write!(f, "done, bytes {count}"),
-            Normalised::Refused(Refusal::NotHeader) => f.write_str(
-                "first nine bytes aren't the header line",
-            ),
-            Normalised::Refused(Refusal::NotEnded) => f.write_str("last byte isn't LF"),
-            Normalised::Refused(Refusal::TooMany) => f.write_str("more than 256 rows"),
-            Normalised::Refused(Refusal::BadRow(row)) => write!(f, "bad row {row}"),
-            Normalised::TooLarge(Direction::Out) => f.write_str("normal form over 256 rows (out)"),
-            Normalised::TooLarge(Direction::In) => f.write_str("normal form over 256 rows (in)"),
-            Normalised::NoRoom => f.write_str("lent room shorter than the printed file"),
+            NormaliseError::Refused(Refusal::NotHeader) => f.write_str("first nine bytes aren't the header line"),
+            NormaliseError::Refused(Refusal::NotEnded) => f.write_str("last byte isn't LF"),
+            NormaliseError::Refused(Refusal::TooMany) => f.write_str("more than 256 rows"),
+            NormaliseError::Refused(Refusal::BadRow(row)) => write!(f, "bad row {row}"),
+            NormaliseError::TooLarge(Direction::Out) => f.write_str("normal form over 256 rows (out)"),
+            NormaliseError::TooLarge(Direction::In) => f.write_str("normal form over 256 rows (in)"),
+            NormaliseError::NoRoom => f.write_str("lent room shorter than the printed file"),
         }
     }
 }

@@ -1,7 +1,7 @@
 // Writes the normal forms, for out and for in, of each policy file on standard input. A tilde parts the files.
 #![tactic(auto)]
 
-use normal_form_file::Normalised;
+use normal_form_file::NormaliseError;
 use policy_text::Refusal;
 use program_input::read_full;
 use selectors::Direction;
@@ -29,27 +29,29 @@ fn each_file(rt: &impl Print, text: &[u8]) -> io::Result<()> {
 fn show(rt: &impl Print, file: &[u8], direction: Direction) -> io::Result<()> {
     let mut room = [0u8; 32768];
     match normal_form_file::normalise(file, direction, &mut room) {
-        Normalised::Printed(count) => {
+        Ok(count) => {
             println!(rt; "5, {count} bytes")?;
             rt.write_all(&room[..count])
         }
-        Normalised::Refused(refusal) => println!(rt; "{}", Words(refusal)),
-        Normalised::TooLarge(_) => println!(rt; "22, the normal form has too many rows"),
-        Normalised::NoRoom => println!(rt; "31, no room"),
+        Err(error) => println!(rt; "{}", Words(error)),
     }
 }
 
-// The number of a refusal, and what it says.
+// The number of an answer that is no normal form, and what it says.
 #[derive(Clone, Copy)]
-struct Words(Refusal);
+struct Words(NormaliseError);
 
 impl Display for Words {
     fn fmt<W: fmt::Write>(&self, f: &mut Formatter<W>) -> fmt::Result {
         match self.0 {
-            Refusal::NotHeader => f.write_str("23, not the header line"),
-            Refusal::NotEnded => f.write_str("24, the last byte is not LF"),
-            Refusal::TooMany => f.write_str("21, too many rows"),
-            Refusal::BadRow(row) => write!(f, "20, bad row {row}"),
+            NormaliseError::Refused(Refusal::NotHeader) => f.write_str("23, not the header line"),
+            NormaliseError::Refused(Refusal::NotEnded) => f.write_str(
+                "24, the last byte is not LF",
+            ),
+            NormaliseError::Refused(Refusal::TooMany) => f.write_str("21, too many rows"),
+            NormaliseError::Refused(Refusal::BadRow(row)) => write!(f, "20, bad row {row}"),
+            NormaliseError::TooLarge(_) => f.write_str("22, the normal form has too many rows"),
+            NormaliseError::NoRoom => f.write_str("31, no room"),
         }
     }
 }

@@ -5,7 +5,7 @@
 ghost use Rattle.std.specs.Prelude.{◌<◌, IfSome};
 
 use arrayvec::ArrayVec;
-use packet::Reading;
+use packet::Packet;
 use program_input::read_full;
 use selectors::{Direction, Value};
 use std::fmt::{Display, Formatter};
@@ -73,7 +73,7 @@ fn show(rt: &impl Print, bytes: &[u8]) -> io::Result<()> {
         "  header: {}",
         Seen(packet::read_trigger(bytes, Direction::Out))
     )?;
-    if let Reading::Readable(read) = inbound
+    if let Some(read) = inbound
         && packet::is_icmp_error(read.selectors)
     {
         let part = packet::trigger(bytes, read);
@@ -85,11 +85,11 @@ fn show(rt: &impl Print, bytes: &[u8]) -> io::Result<()> {
 
 // What the reader sees in a packet.
 #[derive(Clone, Copy)]
-struct Seen(Reading);
+struct Seen(Option<Packet>);
 
 impl Display for Seen {
     fn fmt<W: fmt::Write>(&self, f: &mut Formatter<W>) -> fmt::Result {
-        let Reading::Readable(read) = self.0 else {
+        let Some(read) = self.0 else {
             return f.write_str("unreadable");
         };
         let selectors = read.selectors;
@@ -119,7 +119,7 @@ struct Port(Value);
 impl Display for Port {
     fn fmt<W: fmt::Write>(&self, f: &mut Formatter<W>) -> fmt::Result {
         let port = self.0;
-        if port.same(selectors::ABSENT) {
+        if port == selectors::ABSENT {
             f.write_str("absent")
         } else {
             write!(f, "{}", port.lower)

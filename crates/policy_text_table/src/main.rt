@@ -2,10 +2,10 @@
 // writes the rows again as they are printed for `out`.
 #![tactic(auto)]
 
-use policy::{LIMIT, POLICY_WORDS, ROW_WORDS};
+use policy::{LIMIT, POLICY_WORDS};
 use policy_parse::parse;
-use policy_print::{Printed, print};
-use policy_text::{Edition, Parsed, Refusal};
+use policy_print::{NoRoom, print};
+use policy_text::{Edition, ParseError, Refusal};
 use program_input::read_full;
 use selectors::Direction;
 use std::fmt::{Display, Formatter};
@@ -45,34 +45,34 @@ fn one_file(rt: &(impl Files + Print), name: &[u8]) -> io::Result<()> {
 fn answer(rt: &impl Print, bytes: &[u8]) -> io::Result<()> {
     let mut room = [0u64; POLICY_WORDS];
     match parse(bytes, LIMIT, &mut room) {
-        Parsed::Rows(edition, count) => {
-            println!(rt; "5, rows {count}")?;
-            print_rows(rt, edition, &room[..count * ROW_WORDS])
+        Ok(policy) => {
+            println!(rt; "5, rows {}", policy.count)?;
+            print_rows(rt, policy.edition, policy::first_rows(&room, policy.count))
         }
-        Parsed::Refused(refusal) => println!(rt; "{}", Numbered(refusal)),
-        Parsed::NoRoom => println!(rt; "no room"),
+        Err(error) => println!(rt; "{}", Numbered(error)),
     }
 }
 
 fn print_rows(rt: &impl Print, edition: Edition, rows: &[u64]) -> io::Result<()> {
     let mut room = [0u8; 30000];
     match print(edition, rows, Direction::Out, &mut room) {
-        Printed::Bytes(count) => rt.write_all(&room[..count]),
-        Printed::NoRoom => println!(rt; "31"),
+        Ok(count) => rt.write_all(&room[..count]),
+        Err(NoRoom) => println!(rt; "31"),
     }
 }
 
-// The number of a refusal, and what it carries.
+// The number of an error, and what it carries.
 #[derive(Clone, Copy)]
-struct Numbered(Refusal);
+struct Numbered(ParseError);
 
 impl Display for Numbered {
     fn fmt<W: fmt::Write>(&self, f: &mut Formatter<W>) -> fmt::Result {
         match self.0 {
-            Refusal::NotHeader => f.write_str("23"),
-            Refusal::NotEnded => f.write_str("24"),
-            Refusal::TooMany => f.write_str("21"),
-            Refusal::BadRow(row) => write!(f, "20, row {row}"),
+            ParseError::Refused(Refusal::NotHeader) => f.write_str("23"),
+            ParseError::Refused(Refusal::NotEnded) => f.write_str("24"),
+            ParseError::Refused(Refusal::TooMany) => f.write_str("21"),
+            ParseError::Refused(Refusal::BadRow(row)) => write!(f, "20, row {row}"),
+            ParseError::NoRoom => f.write_str("no room"),
         }
     }
 }
