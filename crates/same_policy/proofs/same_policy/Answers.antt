@@ -1,6 +1,7 @@
 -- `same_policy::same_policy` meets its contract: the rows of two files that are taken are compared, and there is one edition. Assumes nothing.
-use Rattle.std.proofs.Common.{◌≡◌, sym, ap, ◌∙◌}
-use Rattle.policy.specs.Words.{policy_rows, row_limit}
+use Prim.Native.Nat.{◌*◌}
+use Rattle.std.proofs.Common.{◌≡◌, sym, ap, ◌∙◌, take}
+use Rattle.policy.specs.Words.{row_words, policy_rows, row_limit}
 use Rattle.policy_text.specs.declared.Edition.{Edition}
 use Rattle.policy_text.specs.Editions.{rules, rows}
 use Rattle.policy_text.proofs.EditionsLaws.{only_one}
@@ -20,6 +21,8 @@ returns c =
     let two = taken row_limit a.second.now _ _ _ q.value q.rows_after w.second_rows (from_map_err _ _ _ _ w.ensures.cases w.ensures.variant) in
     let same = rw (c.first_rows.ensures, c.first_rows-2.ensures) at c.same-same.ensures in
     let edition : v.first_rows.edition ≡ w.second_rows.edition = only_one _ ∙ sym (only_one _) in
+    let mine = policy_rows (take (v.first_rows.count * row_words) c.parse_policy-first_file.new.rows) in
+    let theirs = policy_rows (take (w.second_rows.count * row_words) c.parse_policy-second_file.new.rows) in
     rw (one.is, two.is)
-    (by_agreement a.direction v.first_rows.edition _ _ c.same-same.result same
-    ∙ ap (λ (e : Edition). compared a.direction (rows (rules v.first_rows.edition _)) (rows (rules e _))) edition)
+    (by_agreement a.direction v.first_rows.edition mine theirs c.same-same.result same
+    ∙ ap (λ (e : Edition). compared a.direction (rows (rules v.first_rows.edition mine)) (rows (rules e theirs))) edition)
