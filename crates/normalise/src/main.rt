@@ -121,7 +121,11 @@ fn print_normal_form(rt: &HostRuntime, policy: &[u8], direction: Direction) {
 }
 
 // The room is never too short.
-fn normal_form(policy: &[u8], direction: Direction, text: &mut [u8; FORM_BYTES]) -> Result<usize, NormaliseError>
+fn normal_form(
+    policy: &[u8],
+    direction: Direction,
+    text: &mut [u8; FORM_BYTES],
+) -> Result<usize, NormaliseError>
     ensures value { result ≡ normalised row_limit direction form_bytes (parse_policy row_limit policy.now) }
     ensures answered { Answered direction (parse_policy row_limit policy.now) text.new result }
 {
@@ -152,12 +156,18 @@ struct Meaning(NormaliseError);
 impl Display for Meaning {
     fn fmt<W: fmt::Write>(&self, f: &mut Formatter<W>) -> fmt::Result {
         match self.0 {
-            NormaliseError::Refused(Refusal::NotHeader) => f.write_str("first nine bytes aren't the header line"),
+            NormaliseError::Refused(Refusal::NotHeader) => f.write_str(
+                "first nine bytes aren't the header line",
+            ),
             NormaliseError::Refused(Refusal::NotEnded) => f.write_str("last byte isn't LF"),
             NormaliseError::Refused(Refusal::TooMany) => f.write_str("more than 256 rows"),
             NormaliseError::Refused(Refusal::BadRow(row)) => write!(f, "bad row {row}"),
-            NormaliseError::TooLarge(Direction::Out) => f.write_str("normal form over 256 rows (out)"),
-            NormaliseError::TooLarge(Direction::In) => f.write_str("normal form over 256 rows (in)"),
+            NormaliseError::TooLarge(Direction::Out) => f.write_str(
+                "normal form over 256 rows (out)",
+            ),
+            NormaliseError::TooLarge(Direction::In) => f.write_str(
+                "normal form over 256 rows (in)",
+            ),
             NormaliseError::NoRoom => f.write_str("lent room shorter than the printed file"),
         }
     }
