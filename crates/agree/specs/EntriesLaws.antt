@@ -1,11 +1,11 @@
 -- Laws of entries: the rows of a list of entries on each side, what a search of these finds, and how a list of entries grows.
 -- Assumes nothing.
 use Rattle.std.specs.Prelude.{ℕ, zero, suc, ◌+◌, ◌-◌, ◌*◌, ◌/◌, ◌%◌, ◌≤◌, ◌<◌, ◌≡◌, refl, Bool, true, false, cond, List, [], ◌∷◌, ◌++◌, map, length, get_or, take, drop, Some, None}
-use Rattle.std.specs.List.{filter}
+use Rattle.std.specs.List.{filter, slice_range}
 use native.Mathlib.Omega.{arith}
-use Rattle.std.proofs.Common.{add_assoc, add-one, ◌∙◌, ap, sym, lit<, take-suc, lt-ltb, le-ltb, eq-eqb, ne_eqb, append-nil}
+use Rattle.std.proofs.Common.{add_assoc, add-one, ◌∙◌, ap, sym, lit<, take-suc, lt-ltb, le-ltb, eq-eqb, ne_eqb, append-nil, get_or-take}
 use Rattle.std.proofs.Math.Seq.{drop-cons}
-use Rattle.std.proofs.lemmas.List.{drop_all, map-append, length-append}
+use Rattle.std.proofs.lemmas.List.{drop_all, map-append, length-append, get_or-drop}
 use Rattle.std.proofs.lemmas.List.Elements.{filter-append}
 use Rattle.selectors.specs.Range.{Range, contains, holds}
 use Rattle.selectors.specs.Ranges.{ends_range}
@@ -19,7 +19,7 @@ use Rattle.agree.specs.Sides.{row_behind, Alike, on_side, code_action, Sides, si
 use Rattle.agree.specs.declared.sides.Side.TheVariants.{First, Second}
 
 -- A row from any field on is what its words from the action on are.
-pub row_same : (first second : List ℕ) (a b : ℕ)
+row_same : (first second : List ℕ) (a b : ℕ)
     → ((k : ℕ) → k < row_words → 1 ≤ k → get_or first (a * row_words + k) 0 ≡ get_or second (b * row_words + k) 0)
     → (f : ℕ) → row_behind first f a ≡ row_behind second f b
 row_same first second a b same f =
@@ -28,6 +28,18 @@ row_same first second a b same f =
       ranges_moved second first (ranges_word b) (ranges_word a) f (field_count - f)
           (λ k p q. rw (add_assoc (a * row_words) 2 k, add_assoc (b * row_words) 2 k) (same (2 + k) (omega arith) (omega arith))),
     )
+
+-- Two rows are the same where their words from the action on are.
+pub row_equal : (first second : List ℕ) (a b : ℕ)
+    → slice_range first (a * row_words + 1) (a * row_words + row_words) ≡ slice_range second (b * row_words + 1) (b * row_words + row_words)
+    → (f : ℕ) → row_behind first f a ≡ row_behind second f b
+row_equal first second a b e = row_same first second a b (λ k h g. word first a k h g ∙ ap (λ (xs : List ℕ). get_or xs (k - 1) 0) e ∙ sym (word second b k h g))
+  where
+    word : (ws : List ℕ) (i k : ℕ) → k < row_words → 1 ≤ k → get_or ws (i * row_words + k) 0 ≡ get_or (slice_range ws (i * row_words + 1) (i * row_words + row_words)) (k - 1) 0
+    word ws i k h g =
+        let j : i * row_words + 1 + (k - 1) ≡ i * row_words + k = omega arith in
+        sym (get_or-take (i * row_words + row_words - (i * row_words + 1)) (drop (i * row_words + 1) ws) (k - 1) 0 (omega arith)
+        ∙ get_or-drop (i * row_words + 1) ws (k - 1) 0 ∙ ap (λ (n : ℕ). get_or ws n 0) j)
 
 pub take_more : (xs : List ℕ) (i : ℕ) → i < length xs → take (i + 1) xs ≡ take i xs ++ get_or xs i 0 ∷ []
 take_more xs i h = rw add-one (take-suc xs i 0 h)

@@ -1,7 +1,7 @@
 -- Two ordered lists of rows as the sides of one list of entries, and what is asked of an entry. Assumes nothing: these are definitions.
 -- An entry is the code of a row (crates/cover/specs/Boxes.antt). Behind the entries stands the end row, which is on both sides, holds
 -- everything and discards.
-use Rattle.std.specs.Prelude.{ℕ, zero, suc, ◌+◌, ◌*◌, ◌/◌, ◌%◌, ◌≤◌, ◌<◌, ◌≡◌, Bool, true, false, not, cond, List, ◌∷◌, map, ◌≢◌, ◌⊎◌, eqb, ltb, length, get_or, filter, Option, Some, None}
+use Rattle.std.specs.Prelude.{ℕ, zero, suc, ◌+◌, ◌*◌, ◌/◌, ◌%◌, ◌≤◌, ◌<◌, ◌≡◌, Bool, true, false, not, cond, List, ◌∷◌, map, ◌≢◌, ◌⊎◌, eqb, ltb, length, get_or, filter, Option, Some, None, MatchOption}
 use Rattle.selectors.specs.Range.{Range, contains}
 use Rattle.selectors.specs.Words.{range_words, range_at}
 use Rattle.normal_form.specs.Search.{Row, row, find}
@@ -131,6 +131,10 @@ Ended E s d k bs = (j : ℕ) → k ≤ j → Passed E s d j bs
 
 unfoldable pub Peace : Sides → Bool → ℕ → ℕ → ℕ → List ℕ → Type 0
 Peace E s d from to bs = (k : ℕ) → from ≤ k → k < to → k ≤ count E → Passed E s d k bs
+
+-- The next entry from `from` on with which d may clash in the box, if there is one.
+abbrev pub NextConflict : Sides → Bool → ℕ → ℕ → List ℕ → Option ℕ → Type 0
+NextConflict E s d from bs r = MatchOption r (Peace E s d from (suc (count E)) bs) (λ k. (from ≤ k) × ((k ≤ count E) × Peace E s d from k bs))
 
 -- In the box d clashes with no entry behind it.
 abbrev pub Harmless : Sides → Bool → ℕ → List ℕ → Type 0

@@ -1,6 +1,6 @@
 // Whether the two sides of a list of entries give the same action throughout a box: each entry that is on one side only is asked about.
-ghost use Rattle.std.specs.Prelude.{◌≡◌, Bool, true, false, not, suc, ◌≤◌, ◌<◌, [], length, MatchOption, Some};
-ghost use Rattle.agree.specs.Sides.{is_second, side_of, sides_in, on_side, action_at, Earlier, Before, Hidden, Passed, Ended, Peace, Harmless, Agreed};
+ghost use Rattle.std.specs.Prelude.{◌≡◌, Bool, true, false, not, suc, ◌≤◌, ◌<◌, [], length, Some};
+ghost use Rattle.agree.specs.Sides.{is_second, side_of, sides_in, on_side, action_at, Earlier, Before, Hidden, Passed, Ended, Peace, NextConflict, Harmless, Agreed};
 ghost use Rattle.agree.specs.declared.sides.Step.TheVariants.{Past, End};
 
 use crate::entries::on;
@@ -26,13 +26,7 @@ fn lone(code: u32) -> Option<Side>
 fn comes_first(code: u32, asked: Asked, j: usize) -> bool
     ensures { result ≡ true → Earlier (is_second asked.side) asked.row code j }
 {
-    if on(code, asked.side.other()) {
-        return true;
-    }
-    if asked.row <= j {
-        return false;
-    }
-    on(code, asked.side)
+    on(code, asked.side.other()) || (j < asked.row && on(code, asked.side))
 }
 
 impl Entries<'_> {
@@ -63,6 +57,7 @@ impl Entries<'_> {
         covered(&self.policies, &list, self.field, bounds, left)
     }
 
+    // What the entry k is to the row asked about, whose action is given.
     fn step(&self, asked: Asked, action: u64, k: usize, bounds: &Bounds) -> Step
         requires { action ≡ action_at (sides_in self.now) asked.row }
         ensures past { result ≡ Past → Passed (sides_in self.now) (is_second asked.side) asked.row k bounds.now.words }
@@ -85,7 +80,7 @@ impl Entries<'_> {
 
     // The next entry from `from` on that is a conflict, the end row among them.
     fn conflict(&self, asked: Asked, from: usize, bounds: &Bounds) -> Option<usize>
-        ensures { MatchOption result (Peace (sides_in self.now) (is_second asked.side) asked.row from (suc (length self.now.codes.now)) bounds.now.words) (λ k. (from ≤ k) × ((k ≤ length self.now.codes.now) × Peace (sides_in self.now) (is_second asked.side) asked.row from k bounds.now.words)) }
+        ensures { NextConflict (sides_in self.now) (is_second asked.side) asked.row from bounds.now.words result }
     {
         let action = self.action(asked.row);
         for k in from..self.codes.len() + 1 {
@@ -101,7 +96,7 @@ impl Entries<'_> {
     // The next conflict behind the entry k. There is none if k is on the other side and covers the box.
     fn after(&self, asked: Asked, k: usize, bounds: &Bounds) -> Option<usize>
         requires { k ≤ length self.now.codes.now }
-        ensures { MatchOption result (Peace (sides_in self.now) (is_second asked.side) asked.row (suc k) (suc (length self.now.codes.now)) bounds.now.words) (λ n. (suc k ≤ n) × ((n ≤ length self.now.codes.now) × Peace (sides_in self.now) (is_second asked.side) asked.row (suc k) n bounds.now.words)) }
+        ensures { NextConflict (sides_in self.now) (is_second asked.side) asked.row (suc k) bounds.now.words result }
     {
         if self.on(k, asked.side.other()) && self.cover(k, bounds) {
             return None;

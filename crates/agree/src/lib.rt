@@ -5,6 +5,7 @@ mod agreement;
 mod cuts;
 mod entries;
 mod merging;
+mod row_list;
 mod sides;
 
 ghost use Rattle.std.specs.Prelude.{◌≡◌, true, ◌+◌, ◌≤◌, ◌<◌, length, filter};
@@ -15,7 +16,8 @@ ghost use Rattle.policy.specs.Words.{row_limit};
 ghost use Rattle.agree.specs.Sides.{range_of, Alike, Cutting};
 
 use crate::cuts::{acting, cutting_among};
-use crate::merging::{cut_entries, merge, there};
+use crate::merging::{cut_entries, merge};
+use crate::row_list::RowList;
 use crate::sides::Entries;
 use arrayvec::ArrayVec;
 use cover::{Bounds, MOST, Policies};
@@ -34,14 +36,14 @@ pub fn agree(
 ) -> bool
     ensures { result ≡ true → Alike field bounds.words first.now of_first.now second.now of_second.now }
 {
-    if !there(first, of_first) {
+    let Some(one) = RowList::of(first, of_first) else {
         return false;
-    }
-    if !there(second, of_second) {
+    };
+    let Some(other) = RowList::of(second, of_second) else {
         return false;
-    }
+    };
     let mut codes = ArrayVec::<u32, MOST>::new();
-    merge(first, of_first, second, of_second, &mut codes);
+    merge(&one, &other, &mut codes);
     let entries = Entries {
         policies: Policies { first, second },
         codes: &codes,
@@ -67,11 +69,11 @@ pub fn same_behind(
     if list.is_empty() {
         return true;
     }
-    if !there(rows, list) {
+    let Some(listed) = RowList::of(rows, list) else {
         return false;
-    }
+    };
     let mut codes = ArrayVec::<u32, MOST>::new();
-    cut_entries(rows, list, field, one, other, &mut codes);
+    cut_entries(&listed, field, one, other, &mut codes);
     let entries = Entries {
         policies: Policies {
             first: rows,

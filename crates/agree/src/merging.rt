@@ -1,11 +1,11 @@
 // Lists of entries: of the rows of a list at a cut, and of two lists merged.
-ghost use Rattle.std.specs.Prelude.{◌≡◌, true, ℕ, ◌+◌, ◌*◌, ◌≤◌, ◌<◌, [], length, filter};
+ghost use Rattle.std.specs.Prelude.{◌≡◌, true, ℕ, ◌+◌, ◌*◌, ◌≤◌, ◌<◌, [], length, get_or, filter};
 ghost use Rattle.selectors.specs.Range.{contains};
 ghost use Rattle.selectors.specs.Value.{number};
 ghost use Rattle.selectors.specs.Words.{field_count};
-ghost use Rattle.policy.specs.Words.{row_words, row_limit};
-ghost use Rattle.agree.specs.Sides.{There, sides_of, SideRows, Next, row_behind, range_of};
+ghost use Rattle.agree.specs.Sides.{sides_of, SideRows, Next, row_behind, range_of};
 
+use crate::row_list::RowList;
 use crate::sides::Side;
 use arrayvec::ArrayVec;
 use cover::{MOST, wide};
@@ -14,27 +14,12 @@ use selectors::Value;
 use selectors::words::{RANGE_WORDS, ends_at};
 
 // What a code has beside its row: 1 for the first side, 2 for the second, 4 for a row of the second policy.
+// Stays: a code is a number, since the must-fail edits `policy_counts_to_the_row` and `sides_for_the_row` of cover are about its digits.
 const FIRST: u32 = 1;
 
 const SECOND: u32 = 2;
 
 const IN_SECOND: u32 = 4;
-
-// Whether the places of a list are those of rows that are there, at most as many as the limit.
-pub(crate) fn there(rows: &[u64], list: &[u16]) -> bool
-    ensures { result ≡ true → There rows.now list.now }
-{
-    if LIMIT < list.len() {
-        return false;
-    }
-    let most = rows.len() / ROW_WORDS;
-    for &row in list {
-        if most <= wide(row) {
-            return false;
-        }
-    }
-    true
-}
 
 // The sides of a row at a cut: the first where its range of the field holds the one value, the second where it holds the other.
 fn sides_of(rows: &[u64], row: u16, field: usize, one: Value, other: Value) -> u32
@@ -63,46 +48,38 @@ fn coded(row: u16, sides: u32) -> u32
 
 // Makes entries of listed rows at a cut.
 pub(crate) fn cut_entries(
-    rows: &[u64],
-    list: &[u16],
+    list: &RowList<'_>,
     field: usize,
     one: Value,
     other: Value,
     entries: &mut ArrayVec<u32, MOST>,
 )
-    requires field_lt_field_count { (field < field_count) × There rows.now list.now }
-    requires no_entries { entries.old.items ≡ [] }
-    ensures { SideRows rows.now rows.now (filter (λ i. contains (range_of rows.now i field) (number one)) list.now) (filter (λ i. contains (range_of rows.now i field) (number other)) list.now) entries.new.items }
+    requires { (field < field_count) × (entries.old.items ≡ []) }
+    ensures { SideRows list.now.rows.now list.now.rows.now (filter (λ i. contains (range_of list.now.rows.now i field) (number one)) list.now.places.now) (filter (λ i. contains (range_of list.now.rows.now i field) (number other)) list.now.places.now) entries.new.items }
 {
-    for &row in list {
-        let sides = sides_of(rows, row, field, one, other);
+    for &row in list.places {
+        let sides = sides_of(list.rows, row, field, one, other);
         if 0 < sides {
             entries.push(coded(row, sides));
         }
     }
 }
 
-// Whether two rows have the same action and ranges.
-fn same_row(first: &[u64], a: usize, second: &[u64], b: usize) -> bool
-    requires { (a * row_words + row_words ≤ length first.now) × (b * row_words + row_words ≤ length second.now) }
-    ensures { result ≡ true → (f : ℕ) → row_behind first.now f a ≡ row_behind second.now f b }
+// Whether two listed rows have the same action and ranges.
+fn same_row(first: &RowList<'_>, i: usize, second: &RowList<'_>, j: usize) -> bool
+    requires { (i < length first.now.places.now) × (j < length second.now.places.now) }
+    ensures { result ≡ true → (f : ℕ) → row_behind first.now.rows.now f (get_or first.now.places.now i 0) ≡ row_behind second.now.rows.now f (get_or second.now.places.now j 0) }
 {
-    let left = a * ROW_WORDS;
-    let right = b * ROW_WORDS;
-    for k in 1..ROW_WORDS {
-        if first[left + k] != second[right + k] {
-            return false;
-        }
-    }
-    true
+    first.row(i) == second.row(j)
 }
 
-// How far behind `from` the first listed row is that is the same as the row; the limit if there is none. It matters for the time alone.
-fn ahead(rows: &[u64], row: usize, others: &[u64], list: &[u16], from: usize) -> usize
-    requires { (row * row_words + row_words ≤ length rows.now) × There others.now list.now }
+// How far behind `from` the first row of another list is that is the same as the row i; the limit if there is none. It matters for the time
+// alone.
+fn ahead(list: &RowList<'_>, i: usize, other: &RowList<'_>, from: usize) -> usize
+    requires { i < length list.now.places.now }
 {
-    for k in from..list.len() {
-        if same_row(rows, row, others, wide(list[k])) {
+    for k in from..other.places.len() {
+        if same_row(list, i, other, k) {
             return k - from;
         }
     }
@@ -111,61 +88,45 @@ fn ahead(rows: &[u64], row: usize, others: &[u64], list: &[u16], from: usize) ->
 
 // The side on which the next entry stands alone, where i rows of the first list and j of the second are entries; none, if the next rows are
 // the same. Of two that differ the one stays alone whose like is farther away in the other list.
-fn next_of(
-    first: &[u64],
-    of_first: &[u16],
-    i: usize,
-    second: &[u64],
-    of_second: &[u16],
-    j: usize,
-) -> Option<Side>
-    requires there { There first.now of_first.now × There second.now of_second.now }
-    requires i_le_firsts { (i ≤ length of_first.now) × ((j ≤ length of_second.now) × (i + j < length of_first.now + length of_second.now)) }
-    ensures { Next first.now of_first.now i second.now of_second.now j result }
+fn next_of(first: &RowList<'_>, i: usize, second: &RowList<'_>, j: usize) -> Option<Side>
+    requires { (i ≤ length first.now.places.now) × ((j ≤ length second.now.places.now) × (i + j < length first.now.places.now + length second.now.places.now)) }
+    ensures { Next first.now.rows.now first.now.places.now i second.now.rows.now second.now.places.now j result }
 {
-    if of_first.len() <= i {
+    if first.places.len() <= i {
         return Some(Side::Second);
     }
-    if of_second.len() <= j {
+    if second.places.len() <= j {
         return Some(Side::First);
     }
-    let a = wide(of_first[i]);
-    let b = wide(of_second[j]);
-    if same_row(first, a, second, b) {
+    if same_row(first, i, second, j) {
         return None;
     }
-    if ahead(first, a, second, of_second, j) < ahead(second, b, first, of_first, i) {
+    if ahead(first, i, second, j) < ahead(second, j, first, i) {
         return Some(Side::Second);
     }
     Some(Side::First)
 }
 
 // Makes entries of two lists, a row that is the same and in like order in both one entry.
-pub(crate) fn merge(
-    first: &[u64],
-    of_first: &[u16],
-    second: &[u64],
-    of_second: &[u16],
-    entries: &mut ArrayVec<u32, MOST>,
-)
-    requires there { There first.now of_first.now × There second.now of_second.now }
-    requires no_entries { entries.old.items ≡ [] }
-    ensures { SideRows first.now second.now of_first.now of_second.now entries.new.items }
+// Stays: the loop counts by hand, since it goes through two lists, each at its own pace.
+pub(crate) fn merge(first: &RowList<'_>, second: &RowList<'_>, entries: &mut ArrayVec<u32, MOST>)
+    requires { entries.old.items ≡ [] }
+    ensures { SideRows first.now.rows.now second.now.rows.now first.now.places.now second.now.places.now entries.new.items }
 {
     let mut i: usize = 0;
     let mut j: usize = 0;
-    while i + j < of_first.len() + of_second.len() {
-        match next_of(first, of_first, i, second, of_second, j) {
+    while i + j < first.places.len() + second.places.len() {
+        match next_of(first, i, second, j) {
             Some(Side::First) => {
-                entries.push(coded(of_first[i], FIRST));
+                entries.push(coded(first.places[i], FIRST));
                 i += 1;
             }
             Some(Side::Second) => {
-                entries.push(coded(of_second[j], SECOND + IN_SECOND));
+                entries.push(coded(second.places[j], SECOND + IN_SECOND));
                 j += 1;
             }
             None => {
-                entries.push(coded(of_first[i], FIRST + SECOND));
+                entries.push(coded(first.places[i], FIRST + SECOND));
                 i += 1;
                 j += 1;
             }

@@ -7,4 +7,4 @@ pub returns-then-is_empty : goal.returns-then-is_empty
 returns-then-is_empty c = λ e. alike_empty _ _ _ _ _ _ (eqb-true _ _ (sym c.is_empty.ensures ∙ c.if-is_empty.true))
 
 pub returns : goal.returns
-returns c = λ e. alike_of _ _ _ _ _ _ _ c.cut_entries.ensures (rw c.deref.ensures.0 at (c.agreed.ensures e))
+returns c = λ e. let a = c.in-Some.ensures in alike_of _ _ _ _ _ _ _ (rw (a.0, a.1) at c.cut_entries.ensures) (rw c.deref.ensures.0 at (c.agreed.ensures e))

@@ -11,7 +11,7 @@ loop-row-preserved c =
     elim c.if-sides-gt0.branch [
       | then-sides-gt0 w ↦ rw (w.entries-is, w.push.ensures.items) (
         rw (length-append c.loop-row.entries.items (w.coded.result ∷ [])) (omega arith),
-        cut_more _ _ _ _ _ _ _ i.1 c.loop-row-test.true _ (omega (arith, c.requires.field_lt_field_count.1.fits)) (rw c.sides_of-sides.ensures at w.coded.ensures),
+        cut_more _ _ _ _ _ _ _ i.1 c.loop-row-test.true _ (omega (arith, c.args.list.now.there.fits)) (rw c.sides_of-sides.ensures at w.coded.ensures),
       )
       | else-sides-gt0 w ↦ rw w.entries-is (omega arith, cut_passed _ _ _ _ _ _ _ i.1 c.loop-row-test.true 0 (omega (arith, c.sides_of-sides.ensures)))
     ]

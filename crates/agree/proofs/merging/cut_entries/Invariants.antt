@@ -7,4 +7,5 @@ use Rattle.agree.proofs.merging.cut_entries.Given as goal
 
 abbrev pub invariant-loop-row : goal.invariant-loop-row
 invariant-loop-row l =
-    (length l.entries.items ≤ l.row-index) × Cut l.rows (λ i. range_of l.rows i l.field) (number l.one) (number l.other) l.list l.row-index l.entries.items
+    (length l.entries.items ≤ l.row-index)
+    × Cut l.list.rows.now (λ i. range_of l.list.rows.now i l.field) (number l.one) (number l.other) l.list.places.now l.row-index l.entries.items

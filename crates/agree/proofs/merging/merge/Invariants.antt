@@ -5,8 +5,8 @@ use Rattle.agree.proofs.merging.merge.Given as goal
 
 abbrev pub invariant-loop-i : goal.invariant-loop-i
 invariant-loop-i l =
-    (l.i ≤ length l.of_first)
-    × ((l.j ≤ length l.of_second) × ((length l.entries.items ≤ l.i + l.j) × SideRows l.first l.second (take l.i l.of_first) (take l.j l.of_second) l.entries.items))
+    (l.i ≤ length l.first.places.now)
+    × ((l.j ≤ length l.second.places.now) × ((length l.entries.items ≤ l.i + l.j) × SideRows l.first.rows.now l.second.rows.now (take l.i l.first.places.now) (take l.j l.second.places.now) l.entries.items))
 
 abbrev pub decreases-loop-i : goal.decreases-loop-i
-decreases-loop-i l = length l.of_first + length l.of_second - (l.i + l.j)
+decreases-loop-i l = length l.first.places.now + length l.second.places.now - (l.i + l.j)
