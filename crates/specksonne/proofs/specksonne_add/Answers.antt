@@ -4,4 +4,4 @@ use Rattle.specksonne.proofs.specksonne_add.Goals as goal
 
 pub returns : goal.returns
 returns c =
-    rw (c.outcome_number.ensures, c.add.ensures.0, c.add.ensures.1, c.pair_from-pair.ensures) (record { value = refl; table_after = refl })
+    rw (c.outcome_number.ensures, c.add.ensures.answer, c.add.ensures.table_after, c.pair_from-pair.ensures) (record { value = refl; table_after = refl })

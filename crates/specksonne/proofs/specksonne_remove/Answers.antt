@@ -3,4 +3,4 @@ use mathlib.Core.Path.{refl}
 use Rattle.specksonne.proofs.specksonne_remove.Goals as goal
 
 pub returns : goal.returns
-returns c = rw (c.outcome_number.ensures, c.remove.ensures.0, c.remove.ensures.1) (record { value = refl; table_after = refl })
+returns c = rw (c.outcome_number.ensures, c.remove.ensures.answer, c.remove.ensures.table_after) (record { value = refl; table_after = refl })
