@@ -7,7 +7,7 @@ use std::path::{Path, PathBuf};
 use testkit::run;
 
 /// The libraries that are the kit's, and no crates of this repository.
-const KIT: [&str; 5] = ["bytes", "check", "io", "libc", "os"];
+const KIT: [&str; 6] = ["arrayvec", "bytes", "check", "io", "libc", "os"];
 
 fn root() -> PathBuf {
     Path::new(env!("CARGO_MANIFEST_DIR")).join("../..")
