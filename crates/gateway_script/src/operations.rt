@@ -89,14 +89,24 @@ impl Gateway {
         ensures value { result ≡ Answer.Packet (outbound_cached self.old.caches.outbound (rows_of row_limit self.old.policy Direction.Out) (pairs self.old.table) packet.now).verdict }
         ensures after { self.new ≡ record self.old { caches = record self.old.caches { outbound = (outbound_cached self.old.caches.outbound (rows_of row_limit self.old.policy Direction.Out) (pairs self.old.table) packet.now).cache } } }
     {
-        Answer::Packet(gateway::outbound(&self.policy, &self.table, &mut self.caches.outbound, packet))
+        Answer::Packet(gateway::outbound(
+            &self.policy,
+            &self.table,
+            &mut self.caches.outbound,
+            packet,
+        ))
     }
 
     fn inbound(&mut self, packet: &[u8]) -> Answer
         ensures value { result ≡ Answer.Packet (inbound_cached self.old.caches.inbound (rows_of row_limit self.old.policy Direction.In) (address_of self.old.policy) (pairs self.old.table) packet.now).verdict }
         ensures after { self.new ≡ record self.old { caches = record self.old.caches { inbound = (inbound_cached self.old.caches.inbound (rows_of row_limit self.old.policy Direction.In) (address_of self.old.policy) (pairs self.old.table) packet.now).cache } } }
     {
-        Answer::Packet(gateway::inbound(&self.policy, &self.table, &mut self.caches.inbound, packet))
+        Answer::Packet(gateway::inbound(
+            &self.policy,
+            &self.table,
+            &mut self.caches.inbound,
+            packet,
+        ))
     }
 
     fn from_sa(&self, protocol: u64, spi: u32, packet: &[u8]) -> Answer
