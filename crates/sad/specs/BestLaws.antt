@@ -179,7 +179,7 @@ module _ (number : ℕ) (vs : List ℕ) where
   wanted_none [] h = best-nil None
   wanted_none (r ∷ qs) h = best_passed r qs (h r (Memᴰ.head refl)) ∙ wanted_none qs (λ q m. h q (Memᴰ.tail m))
 
-  -- 2 and 3 of document 01: there is a pair for the packet exactly where Some pair is wanted, and then it is the best of them.
+  -- 2 and 3 of document 01: there is a pair for the packet exactly where some pair is wanted, and then it is the best of them.
   pub pair_for-found : (qs : List Pair) (protocol spi : ℕ) → pair_for number vs qs ≡ Some (record { protocol = protocol; spi = spi })
       → (q : Pair) × Best qs q × (q.protocol ≡ protocol) × (q.outbound_spi ≡ spi)
   unfolding pair_for
