@@ -53,7 +53,7 @@ pub fn bytes(text: &[u8]) -> Option<ArrayVec<u8, MOST_BYTES>> {
     Some(bytes)
 }
 
-// A digit of lowercase hexadecimal.
+// A digit of lowercase hexadecimal. Stays: `char::to_digit` takes capitals too.
 fn digit(byte: u8) -> Option<u8>
     ensures { IfSome result (λ digit. digit < 16) }
 {

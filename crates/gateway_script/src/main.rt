@@ -62,7 +62,7 @@ fn from_input(rt: &(impl Print + Eprint), source: &mut impl Read) {
     let mut room = [0u8; MOST_READ + 1];
     let input = read_full(source, &mut room);
     if input.count > MOST_READ {
-        say(rt, "script longer than 131072 bytes");
+        say(rt, format_args!("script longer than {MOST_READ} bytes"));
         return;
     }
     replay(rt, &room[..input.count]);

@@ -52,7 +52,7 @@ fn decode(line: &[u8]) -> ArrayVec<u8, MOST> {
     bytes
 }
 
-// A digit of hex; any other byte counts as 0.
+// A digit of hex; any other byte counts as 0. Stays: `char::to_digit` takes capitals too.
 fn digit(byte: u8) -> u8
     ensures { result < 16 }
 {

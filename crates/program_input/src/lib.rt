@@ -18,6 +18,7 @@ pub struct Filled {
 }
 
 /// Reads until the room is full, the input ends or a read fails.
+// Stays: a fixed room (fixed memory). With `read_to_end` into a `Vec` each program would have one more failure, where memory runs out.
 pub fn read_full<R: Read>(input: &mut R, room: &mut [u8]) -> Filled
     ensures within { result.count ≤ length room.new }
     ensures bytes { Consumes (R.remaining input.old) (R.remaining input.new) (take result.count room.new) }
