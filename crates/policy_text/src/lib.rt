@@ -7,6 +7,7 @@ ghost use Rattle.policy_text.specs.Decimals.{unpadded, decimal};
 ghost use Rattle.policy_text.specs.declared.ParseError.TheVariants.{Refused};
 
 // Where the first byte `b` stands, or the text's length.
+// Stays a number, and no Option: its clause is an equation with `index`, which is the length where there is none.
 pub fn find(s: &[u8], b: u8) -> usize
     ensures { (result ≡ index b s.now) × (result ≤ length s.now) }
 {
