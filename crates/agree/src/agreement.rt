@@ -26,13 +26,7 @@ fn lone(code: u32) -> Option<Side>
 fn comes_first(code: u32, asked: Asked, j: usize) -> bool
     ensures { result ≡ true → Earlier (is_second asked.side) asked.row code j }
 {
-    if on(code, asked.side.other()) {
-        return true;
-    }
-    if asked.row <= j {
-        return false;
-    }
-    on(code, asked.side)
+    on(code, asked.side.other()) || (j < asked.row && on(code, asked.side))
 }
 
 impl Entries<'_> {
@@ -63,6 +57,7 @@ impl Entries<'_> {
         covered(&self.policies, &list, self.field, bounds, left)
     }
 
+    // What the entry k is to the row asked about, whose action is given.
     fn step(&self, asked: Asked, action: u64, k: usize, bounds: &Bounds) -> Step
         requires { action ≡ action_at (sides_in self.now) asked.row }
         ensures past { result ≡ Past → Passed (sides_in self.now) (is_second asked.side) asked.row k bounds.now.words }

@@ -1,5 +1,5 @@
 // Entries: the sides that they are on, their actions, how they stand to a box.
-ghost use Rattle.std.specs.Prelude.{◌≡◌, true, not, ◌<◌};
+ghost use Rattle.std.specs.Prelude.{◌≡◌, true, not, ◌<◌, ◌≤◌, length, get_or, MatchOption};
 ghost use Rattle.agree.specs.Sides.{is_second, sides_in, action_in, on_side, on, action_at, EntryApart, EntryCovers, EntryCommon};
 
 use crate::sides::{Entries, Side};
@@ -32,53 +32,61 @@ pub(crate) fn action_in(rows: &[u64], row: usize) -> u64
     requires { row < 4294967296 }
     ensures { result ≡ action_in rows.now row }
 {
-    let at = row * ROW_WORDS + 1;
-    if at < rows.len() {
-        return rows[at];
-    }
-    0
+    rows.get(row * ROW_WORDS + 1).copied().unwrap_or(0)
 }
 
 impl Entries<'_> {
+    // The code of an entry; the end row has none.
+    fn code(&self, k: usize) -> Option<u32>
+        ensures { MatchOption result (length self.now.codes.now ≤ k) (λ code. (k < length self.now.codes.now) × (code ≡ get_or self.now.codes.now k 0)) }
+    {
+        self.codes.get(k).copied()
+    }
+
     pub(crate) fn on(&self, k: usize, side: Side) -> bool
         ensures { result ≡ on (sides_in self.now) (is_second side) k }
     {
-        if k < self.codes.len() {
-            return on(self.codes[k], side);
-        }
-        true
+        let Some(code) = self.code(k) else {
+            return true;
+        };
+        on(code, side)
     }
 
     pub(crate) fn action(&self, k: usize) -> u64
         ensures { result ≡ action_at (sides_in self.now) k }
     {
-        if k < self.codes.len() {
-            let code = self.codes[k];
-            return action_in(self.policies.table_of(code), row_of(code));
-        }
-        0
+        let Some(code) = self.code(k) else {
+            return 0;
+        };
+        action_in(self.policies.table_of(code), row_of(code))
     }
 
     // Whether an entry is known to be apart from a box; and whether it is known to cover it.
     pub(crate) fn apart(&self, k: usize, bounds: &Bounds) -> bool
         ensures { result ≡ true → EntryApart (sides_in self.now) k bounds.now.words }
     {
-        k < self.codes.len() && apart_from(&self.policies, self.codes[k], self.field, bounds)
+        let Some(code) = self.code(k) else {
+            return false;
+        };
+        apart_from(&self.policies, code, self.field, bounds)
     }
 
     pub(crate) fn cover(&self, k: usize, bounds: &Bounds) -> bool
         ensures { result ≡ true → EntryCovers (sides_in self.now) k bounds.now.words }
     {
-        self.codes.len() <= k || covers(&self.policies, self.codes[k], self.field, bounds)
+        let Some(code) = self.code(k) else {
+            return true;
+        };
+        covers(&self.policies, code, self.field, bounds)
     }
 
     // A box that has all that a box and an entry have in common.
     pub(crate) fn common(&self, k: usize, bounds: &Bounds) -> Bounds
         ensures { EntryCommon (sides_in self.now) k bounds.now.words result.words }
     {
-        if k < self.codes.len() {
-            return common(&self.policies, self.codes[k], self.field, bounds);
-        }
-        *bounds
+        let Some(code) = self.code(k) else {
+            return *bounds;
+        };
+        common(&self.policies, code, self.field, bounds)
     }
 }

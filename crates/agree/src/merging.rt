@@ -14,6 +14,7 @@ use selectors::Value;
 use selectors::words::{RANGE_WORDS, ends_at};
 
 // What a code has beside its row: 1 for the first side, 2 for the second, 4 for a row of the second policy.
+// Stays: a code is a number, since the must-fail edits `policy_counts_to_the_row` and `sides_for_the_row` of cover are about its digits.
 const FIRST: u32 = 1;
 
 const SECOND: u32 = 2;
@@ -107,6 +108,7 @@ fn next_of(first: &RowList<'_>, i: usize, second: &RowList<'_>, j: usize) -> Opt
 }
 
 // Makes entries of two lists, a row that is the same and in like order in both one entry.
+// Stays: the loop counts by hand, since it goes through two lists, each at its own pace.
 pub(crate) fn merge(first: &RowList<'_>, second: &RowList<'_>, entries: &mut ArrayVec<u32, MOST>)
     requires { entries.old.items ≡ [] }
     ensures { SideRows first.now.rows.now second.now.rows.now first.now.places.now second.now.places.now entries.new.items }

@@ -19,6 +19,7 @@ pub(crate) fn ranges_of(rows: &[u64], row: usize) -> Option<&[u64]>
 }
 
 // The range of a field among the words of ranges.
+// Stays: that the field is one is asked for, and no type's: in a loop over `field..FIELDS` it is known, and a type would be made at each turn.
 pub(crate) fn range_in(words: &[u64], field: usize) -> Ends
     requires { field < field_count }
     ensures { result ≡ ends_at words.now (range_words * field) }

@@ -6,5 +6,5 @@ use Rattle.agree.proofs.agreement.comes_first.Goals as goal
 pub returns-then-on : goal.returns-then-on
 returns-then-on c = λ _. earlier_other _ _ _ _ (rw c.other.ensures at (sym c.on.ensures ∙ c.if-on.true))
 
-pub returns : goal.returns
-returns c = λ e. earlier_own _ _ _ _ c.if-asked-j.false (sym c.on-2.ensures ∙ e)
+pub returns-then-j-asked : goal.returns-then-j-asked
+returns-then-j-asked c = λ e. earlier_own _ _ _ _ c.if-j-asked.true (sym c.on-then-j-asked.ensures ∙ e)

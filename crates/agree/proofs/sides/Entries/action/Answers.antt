@@ -3,8 +3,8 @@ use Rattle.std.proofs.Common.{sym, ◌∙◌}
 use Rattle.agree.specs.SidesLaws.{action_entry, action_end}
 use Rattle.agree.proofs.sides.Entries.action.Goals as goal
 
-pub returns-then-k-self : goal.returns-then-k-self
-returns-then-k-self c = (rw (c.table_of.ensures, c.row_of.ensures) at c.action_in.ensures) ∙ sym (action_entry _ _ c.if-k-self.true)
-
 pub returns : goal.returns
-returns c = sym (action_end _ _ c.if-k-self.false)
+returns c = let a = c.in-Some.ensures in (rw (c.table_of.ensures, c.row_of.ensures, a.1) at c.action_in.ensures) ∙ sym (action_entry _ _ a.0)
+
+pub returns-in_default : goal.returns-in_default
+returns-in_default c = sym (action_end _ _ c.in_default.ensures)

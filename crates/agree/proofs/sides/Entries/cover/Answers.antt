@@ -2,8 +2,8 @@
 use Rattle.agree.specs.SidesLaws.{covers_entry, covers_end}
 use Rattle.agree.proofs.sides.Entries.cover.Goals as goal
 
-pub returns-then-self-k : goal.returns-then-self-k
-returns-then-self-k c = λ e. covers_end _ _ _ c.if-self-k.true
+pub returns : goal.returns
+returns c = let a = c.in-Some.ensures in λ e. covers_entry _ _ _ a.0 (rw a.1 at (c.covers.ensures e))
 
-pub returns-else-self-k : goal.returns-else-self-k
-returns-else-self-k c = λ e. covers_entry _ _ _ c.if-self-k.false (c.covers.ensures e)
+pub returns-in_default : goal.returns-in_default
+returns-in_default c = λ e. covers_end _ _ _ c.in_default.ensures

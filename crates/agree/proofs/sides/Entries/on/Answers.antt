@@ -3,8 +3,8 @@ use Rattle.std.proofs.Common.{sym, ◌∙◌}
 use Rattle.agree.specs.SidesLaws.{on-entry, on_end}
 use Rattle.agree.proofs.sides.Entries.on.Goals as goal
 
-pub returns-then-k-self : goal.returns-then-k-self
-returns-then-k-self c = c.on.ensures ∙ sym (on-entry _ _ _ c.if-k-self.true)
-
 pub returns : goal.returns
-returns c = sym (on_end _ _ _ c.if-k-self.false)
+returns c = let a = c.in-Some.ensures in (rw a.1 at c.on.ensures) ∙ sym (on-entry _ _ _ a.0)
+
+pub returns-in_default : goal.returns-in_default
+returns-in_default c = sym (on_end _ _ _ c.in_default.ensures)
