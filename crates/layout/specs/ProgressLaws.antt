@@ -8,6 +8,7 @@ use Rattle.std.specs.Prelude.{◌≡◌, refl, List, [], ◌∷◌, ◌++◌, le
 use Rattle.std.proofs.Math.Path.{ap}
 use Rattle.std.proofs.lemmas.Bool.{lt-leb}
 use Rattle.std.proofs.Math.ListN.{get_or-append}
+use borrow.Rule.Slice.PartMut.{put_mid}
 use Rattle.selectors.specs.Value.{number}
 use Rattle.selectors.specs.Words.{field_count, value_words, value_of, values_from}
 use Rattle.selectors.specs.declared.Value.{Value}
@@ -18,7 +19,7 @@ use Rattle.cover.specs.RangesLaws.{written}
 use Rattle.layout.specs.Parting.{Parting, parting-≟}
 use Rattle.layout.specs.Decode.{sizes_from, part_rows}
 use Rattle.layout.specs.DecodeLaws.{rows_moved, rows-length}
-use Rattle.layout.specs.Steps.{form_at, words_for, LaidOut, SearchAlike, Stamped, Merged, Begun, Placed}
+use Rattle.layout.specs.Steps.{form_at, words_for, LaidOut, SearchAlike, IntervalEnd, Stamped, Merged, Begun, Placed}
 use Rattle.layout.specs.StepsLaws.{stamped_done, laid-rows, laid_over, words-next}
 use Rattle.layout.specs.FormLaws.{form-field, form_alike, values_with}
 use Rattle.layout.specs.TurnLaws.{Reached, reached_start, reached_rows, reached-length, reached_merged, reached_again, reached_begun, rows_grow, layout_within}
@@ -208,6 +209,17 @@ room_for limit f next n xs h g enough e =
     let l : length (take (length xs - next * row_words) (drop (next * row_words) xs)) ≡ length xs - next * row_words =
     length-take-le (length xs - next * row_words) (drop (next * row_words) xs) (rw (length-drop (next * row_words) xs) (omega arith)) in
     record { start = omega arith; behind = omega arith; enough = omega arith }
+
+-- The same by what the loop has: its room, the end of the interval, and what came of the stretch.
+pub turned : {first second before ws part ws'' : List ℕ} {task : Task} {f v w top limit : ℕ} {old new : Kept} {laid : Option ℕ} {q : Result (Option ℕ) LayoutError}
+    → f < field_count → IntervalEnd v top w (SearchAlike task.direction first before v w × SearchAlike task.direction second before v w)
+    → Progress first second task before f ws old v → Room limit f (old.next * row_words) ws
+    → length part ≡ length (take (length ws - old.next * row_words) (drop (old.next * row_words) ws)) → q ≡ Ok laid
+    → StretchOut limit (f + 1) (field_count - (f + 1)) v (layout_at first second task before f) part q
+    → PlacedStretch f (field_count - (f + 1)) old laid v (put_mid (old.next * row_words) (length ws - old.next * row_words) ws part) ws'' new
+    → Progress first second task before f ws'' new (w + 1)
+turned {first} {second} {before} {ws} {part} {ws''} {task} {f} {v} {w} {top} {limit} {old} {new} {laid} {q} h e p r k is s m =
+    turn_stretch first second task before f h v w e.reaches e.alike ws part _ ws'' old new limit p (omega (arith, r.start)) (rw k r.enough) laid q is s m
 
 -- One more than a value below another one is no more than the largest.
 pub one_more : (M n e t : ℕ) → n ≡ min (e + 1) (M - 1) → e < t → t < M → n ≡ e + 1

@@ -12,30 +12,29 @@ ghost use Rattle.layout.specs.Steps.{IntervalEnd, AlikeTo, AlikeAmong, SearchAli
 use crate::Point;
 use crate::branch::Branch;
 use crate::lists::{active, row_range};
+use crate::span::Span;
 use policy::{LIMIT, ROW_WORDS};
 use selectors::{Direction, Ends, Value};
 
-// The last value, up to `best`, to which the range treats all values like `from`.
-fn alike_to(range: Ends, from: Value, best: Value) -> Value
-    requires { number from ≤ number best }
-    ensures { IntervalEnd (number from) (number best) (number result) (AlikeTo (ends_range range) (number from) (number result)) }
+// The last value of the span to which the range treats all values like its first.
+fn alike_to(range: Ends, span: Span) -> Value
+    ensures { IntervalEnd (number span.from) (number span.last) (number result) (AlikeTo (ends_range range) (number span.from) (number result)) }
 {
-    if from < range.low {
-        return range.low.previous().min(best);
+    if span.from < range.low {
+        return range.low.previous().min(span.last);
     }
-    if range.high < from {
-        return best;
+    if range.high < span.from {
+        return span.last;
     }
-    range.high.min(best)
+    range.high.min(span.last)
 }
 
 // The same for the range of a field in a row.
-fn range_end(rows: &[u64], row: usize, field: usize, from: Value, best: Value) -> Value
-    requires field_lt_field_count { (field < field_count) × (row * row_words + row_words ≤ length rows.now) }
-    requires from_bound { number from ≤ number best }
-    ensures { IntervalEnd (number from) (number best) (number result) (AlikeTo (range_of rows.now row field) (number from) (number result)) }
+fn range_end(rows: &[u64], row: usize, field: usize, span: Span) -> Value
+    requires { (field < field_count) × (row * row_words + row_words ≤ length rows.now) }
+    ensures { IntervalEnd (number span.from) (number span.last) (number result) (AlikeTo (range_of rows.now row field) (number span.from) (number result)) }
 {
-    alike_to(row_range(rows, row, field), from, best)
+    alike_to(row_range(rows, row, field), span)
 }
 
 // The same if the row is active, which is asked last, since most ranges end nothing earlier.
@@ -45,55 +44,48 @@ fn row_end(
     direction: Direction,
     point: &Point,
     field: usize,
-    from: Value,
-    best: Value,
+    span: Span,
 ) -> Value
-    requires field_lt_field_count { (field < field_count) × (row * row_words + row_words ≤ length rows.now) }
-    requires from_bound { number from ≤ number best }
-    ensures { IntervalEnd (number from) (number best) (number result) (isActive direction rows.now row field (values_from point.now.words 0 field) ≡ true → AlikeTo (range_of rows.now row field) (number from) (number result)) }
+    requires { (field < field_count) × (row * row_words + row_words ≤ length rows.now) }
+    ensures { IntervalEnd (number span.from) (number span.last) (number result) (isActive direction rows.now row field (values_from point.now.words 0 field) ≡ true → AlikeTo (range_of rows.now row field) (number span.from) (number result)) }
 {
-    let end = range_end(rows, row, field, from, best);
-    if best <= end {
-        return best;
+    let end = range_end(rows, row, field, span);
+    if span.last <= end {
+        return span.last;
     }
     if !active(rows, row, direction, &point.words, field) {
-        return best;
+        return span.last;
     }
     end
 }
 
 // The same for the listed rows.
-fn end_listed(rows: &[u64], list: &[u16], field: usize, from: Value, best: Value) -> Value
-    requires { (field < field_count) × (There rows.now list.now × (number from ≤ number best)) }
-    ensures { IntervalEnd (number from) (number best) (number result) (AlikeListed rows.now list.now (length list.now) field (number from) (number result)) }
+fn end_listed(rows: &[u64], list: &[u16], field: usize, span: Span) -> Value
+    requires { (field < field_count) × There rows.now list.now }
+    ensures { IntervalEnd (number span.from) (number span.last) (number result) (AlikeListed rows.now list.now (length list.now) field (number span.from) (number result)) }
 {
-    let mut end = best;
+    let from = span.from;
+    let mut end = span.last;
     for &row in list {
-        end = range_end(rows, usize::from(row), field, from, end);
+        end = range_end(rows, usize::from(row), field, Span { from, last: end });
     }
     end
 }
 
 // The same for all rows of a policy that are active.
-fn end_of_all(
-    rows: &[u64],
-    direction: Direction,
-    point: &Point,
-    field: usize,
-    from: Value,
-    best: Value,
-) -> Value
-    requires { (field < field_count) × (number from ≤ number best) }
-    ensures { IntervalEnd (number from) (number best) (number result) (AlikeAmong direction rows.now (length rows.now / row_words) field (values_from point.now.words 0 field) (number from) (number result)) }
+fn end_of_all(rows: &[u64], direction: Direction, point: &Point, field: usize, span: Span) -> Value
+    requires { field < field_count }
+    ensures { IntervalEnd (number span.from) (number span.last) (number result) (AlikeAmong direction rows.now (length rows.now / row_words) field (values_from point.now.words 0 field) (number span.from) (number result)) }
 {
-    let mut end = best;
+    let from = span.from;
+    let mut end = span.last;
     for row in 0..rows.len() / ROW_WORDS {
-        end = row_end(rows, row, direction, point, field, from, end);
+        end = row_end(rows, row, direction, point, field, Span { from, last: end });
     }
     end
 }
 
-// The last value, up to `best`, to which the search treats all values like `from`: no listed row parts them, or no active row at all where a
+// The last value of the span to which the search treats all values like its first: no listed row parts them, or no active row at all where a
 // policy has more rows than are listed.
 fn end_among(
     rows: &[u64],
@@ -101,44 +93,37 @@ fn end_among(
     point: &Point,
     cuts: &[u16],
     field: usize,
-    from: Value,
-    best: Value,
+    span: Span,
 ) -> Value
-    requires field_lt_field_count { (field < field_count) × (number from ≤ number best) }
+    requires field_lt_field_count { field < field_count }
     requires cuts_at { CutsAt direction rows.now field (values_from point.now.words 0 field) cuts.now }
-    ensures { IntervalEnd (number from) (number best) (number result) (SearchAlike direction rows.now (values_from point.now.words 0 field) (number from) (number result)) }
+    ensures { IntervalEnd (number span.from) (number span.last) (number result) (SearchAlike direction rows.now (values_from point.now.words 0 field) (number span.from) (number result)) }
 {
     if rows.len() / ROW_WORDS <= LIMIT {
-        return end_listed(rows, cuts, field, from, best);
+        return end_listed(rows, cuts, field, span);
     }
-    end_of_all(rows, direction, point, field, from, best)
+    end_of_all(rows, direction, point, field, span)
 }
 
-// The last value of the interval that begins at `from`: to it, both policies treat all values alike. The lists have the rows of the policies
+// The last value of the interval that begins with the span: to it, both policies treat all values alike. The lists have the rows of the policies
 // that may part values of the branch's field.
-pub(crate) fn interval_end(
-    branch: &Branch,
-    cuts: &[u16],
-    other_cuts: &[u16],
-    from: Value,
-    top: Value,
-) -> Value
-    requires field_lt_field_count { (branch.now.field < field_count) × (number from ≤ number top) }
+pub(crate) fn interval_end(branch: &Branch, cuts: &[u16], other_cuts: &[u16], span: Span) -> Value
+    requires field_lt_field_count { branch.now.field < field_count }
     requires cuts_at { CutsAt branch.now.task.now.direction branch.now.first.now branch.now.field (values_from branch.now.point.words 0 branch.now.field) cuts.now }
     requires cuts_at_2 { CutsAt branch.now.task.now.direction branch.now.second.now branch.now.field (values_from branch.now.point.words 0 branch.now.field) other_cuts.now }
-    ensures { IntervalEnd (number from) (number top) (number result) (SearchAlike branch.now.task.now.direction branch.now.first.now (values_from branch.now.point.words 0 branch.now.field) (number from) (number result) × SearchAlike branch.now.task.now.direction branch.now.second.now (values_from branch.now.point.words 0 branch.now.field) (number from) (number result)) }
+    ensures { IntervalEnd (number span.from) (number span.last) (number result) (SearchAlike branch.now.task.now.direction branch.now.first.now (values_from branch.now.point.words 0 branch.now.field) (number span.from) (number result) × SearchAlike branch.now.task.now.direction branch.now.second.now (values_from branch.now.point.words 0 branch.now.field) (number span.from) (number result)) }
 {
     let direction = branch.task.direction;
     let point = &branch.point;
     let field = branch.field;
-    let best = end_among(branch.first, direction, point, cuts, field, from, top);
+    let from = span.from;
+    let last = end_among(branch.first, direction, point, cuts, field, span);
     end_among(
         branch.second,
         direction,
         point,
         other_cuts,
         field,
-        from,
-        best,
+        Span { from, last },
     )
 }

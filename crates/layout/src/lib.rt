@@ -5,6 +5,7 @@ mod branch;
 mod intervals;
 mod lists;
 mod room;
+mod span;
 mod stretches;
 
 ghost use Rattle.std.specs.Prelude.{◌+◌, ◌-◌, ◌≤◌, ◌<◌, length};
@@ -20,6 +21,7 @@ use crate::branch::{Branch, Task};
 use crate::intervals::interval_end;
 use crate::lists::{narrow, rows_for, with_value};
 use crate::room::{place_stretch, stamp};
+use crate::span::Span;
 use crate::stretches::{joined, known_alike, leaf};
 use agree::cutting;
 use arrayvec::ArrayVec;
@@ -116,7 +118,7 @@ fn layout_field(branch: &Branch, room: &mut [u64]) -> Result<usize, LayoutError>
     let mut kept = START;
     let mut from = Value::ZERO;
     loop {
-        let end = interval_end(branch, &cuts, &other_cuts, from, top);
+        let end = interval_end(branch, &cuts, &other_cuts, Span { from, last: top });
         let base = kept.next * ROW_WORDS;
         let laid = layout_stretch(branch, from, &mut room[base..])?;
         kept = place_stretch(room, kept, laid, field, from);

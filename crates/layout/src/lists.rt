@@ -28,6 +28,7 @@ pub(crate) fn with_value(point: Point, field: usize, value: Value) -> Point
 }
 
 // Whether a row is for the direction and holds the point's values in the fields before `field`.
+// Stays: a row and a field are numbers, with their bounds in the contracts: a type for either would be built at each read, and is no plainer.
 pub(crate) fn active(
     rows: &[u64],
     row: usize,
@@ -85,7 +86,11 @@ pub(crate) fn narrow(
     }
 }
 
+// The word of discard.
+const DISCARD: u64 = 0;
+
 // The word of the action that the ordered search finds at the point, whose values the listed rows hold.
+// Stays: an action is its word, since a row of a normal form gets the word as the policy has it (specs/Laid.antt, `laid_row`).
 pub(crate) fn action_at(rows: &[u64], direction: Direction, point: &Point, list: &[u16]) -> u64
     requires { Lists direction rows.now field_count (values_from point.now.words 0 field_count) list.now }
     ensures { result ≡ action_word (ordered_search direction (policy_rows rows.now) (values_from point.now.words 0 field_count)) }
@@ -94,10 +99,10 @@ pub(crate) fn action_at(rows: &[u64], direction: Direction, point: &Point, list:
         return rows[usize::from(*row) * ROW_WORDS + 1];
     }
     if rows.len() / ROW_WORDS <= LIMIT {
-        return 0;
+        return DISCARD;
     }
     match first_match(rows, direction, selectors_of(&point.words)) {
         Some(row) => rows[row * ROW_WORDS + 1],
-        None => 0,
+        None => DISCARD,
     }
 }

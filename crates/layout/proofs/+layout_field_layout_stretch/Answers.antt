@@ -15,16 +15,13 @@ use Rattle.layout.specs.AlikeLaws.{cuts_at}
 use Rattle.layout.specs.FormLaws.{values_length}
 use Rattle.layout.specs.StepsLaws.{words-next}
 use Rattle.layout.specs.ListsLaws.{lists_within, branch-next}
-use Rattle.layout.specs.ProgressLaws.{Progress, progress_start, over-behind, over_so_far, laid_out, laid_last, laid-field, value-form, room_for, turn_stretch, one_more}
+use Rattle.layout.specs.ProgressLaws.{progress_start, over-behind, over_so_far, laid_out, laid_last, laid-field, value-form, room_for, turned, one_more}
 use Rattle.layout.specs.StretchesLaws.{stretch_empty, stretch_rows, stretch_over, stretch_fits}
 use Rattle.layout.proofs.+layout_field_layout_stretch.Goals as goal
 
 pub layout_field-loop-laid-init : goal.layout_field-loop-laid-init
 unfolding number
 layout_field-loop-laid-init t c = record { whole = refl; few = omega arith; in_range = omega arith; progress = progress_start _ _ _ _ _ _ _ _ refl refl refl }
-
-pub layout_field-interval_end-end-requires-clause-field_lt_field_count : goal.layout_field-interval_end-end-requires-clause-field_lt_field_count
-layout_field-interval_end-end-requires-clause-field_lt_field_count t c = (c.requires.field_lt_field_count, c.loop-laid.invariant.in_range)
 
 pub layout_field-interval_end-end-requires-clause-cuts_at : goal.layout_field-interval_end-end-requires-clause-cuts_at
 layout_field-interval_end-end-requires-clause-cuts_at t c =
@@ -79,32 +76,20 @@ layout_field-place_stretch-kept-requires-clause-by_index t c =
 pub layout_field-returns-then-limit-next : goal.layout_field-returns-then-limit-next
 layout_field-returns-then-limit-next t c =
     let r = room_for _ _ _ _ _ c.requires.field_lt_field_count c.loop-laid.invariant.few c.requires.field_in_bounds c.loop-laid.invariant.whole in
-    let b = c.args.branch.now in
-    let e = c.interval_end-end.ensures in
-    let placed : Progress b.first.now b.second.now b.task.now (values_from b.point.words 0 b.field) b.field c.place_stretch-kept.new.room c.place_stretch-kept.result (number c.interval_end-end.result + 1) =
-    turn_stretch _ _ _ _ _ c.requires.field_lt_field_count _ _ e.reaches e.alike _ _ _ _ _ _ b.task.now.limit c.loop-laid.invariant.progress (omega (arith, r.start))
-    (rw c.layout_stretch.auto.room r.enough) _ _ c.in_ok-laid.was c.layout_stretch.ensures c.place_stretch-kept.ensures in
-    over_so_far _ _ _ _ _ c.requires.field_lt_field_count _ _ _ _ placed (omega (arith, e.within, ap number c.value_at-top.ensures)) c.if-limit-next.true _
+    let placed = turned c.requires.field_lt_field_count c.interval_end-end.ensures c.loop-laid.invariant.progress r c.layout_stretch.auto.room c.in_ok-laid.was c.layout_stretch.ensures c.place_stretch-kept.ensures in
+    over_so_far _ _ _ _ _ c.requires.field_lt_field_count _ _ _ _ placed (omega (arith, c.interval_end-end.ensures.within, ap number c.value_at-top.ensures)) c.if-limit-next.true _
 
 pub layout_field-stamp-requires : goal.layout_field-stamp-requires
 layout_field-stamp-requires t c =
     let r = room_for _ _ _ _ _ c.requires.field_lt_field_count c.loop-laid.invariant.few c.requires.field_in_bounds c.loop-laid.invariant.whole in
-    let b = c.args.branch.now in
-    let e = c.interval_end-end.ensures in
-    let placed : Progress b.first.now b.second.now b.task.now (values_from b.point.words 0 b.field) b.field c.place_stretch-kept.new.room c.place_stretch-kept.result (number c.interval_end-end.result + 1) =
-    turn_stretch _ _ _ _ _ c.requires.field_lt_field_count _ _ e.reaches e.alike _ _ _ _ _ _ b.task.now.limit c.loop-laid.invariant.progress (omega (arith, r.start))
-    (rw c.layout_stretch.auto.room r.enough) _ _ c.in_ok-laid.was c.layout_stretch.ensures c.place_stretch-kept.ensures in
+    let placed = turned c.requires.field_lt_field_count c.interval_end-end.ensures c.loop-laid.invariant.progress r c.layout_stretch.auto.room c.in_ok-laid.was c.layout_stretch.ensures c.place_stretch-kept.ensures in
     let back = same_len_mid (c.loop-laid.kept.next * row_words) (length c.loop-laid.room - c.loop-laid.kept.next * row_words) c.loop-laid.room c.layout_stretch.new.room c.layout_stretch.auto.room in
     (c.requires.field_lt_field_count, (placed.ordered, omega (arith, r.start, c.if-limit-next.false, c.place_stretch-kept.auto.room, back)))
 
 pub layout_field-returns-then-eq : goal.layout_field-returns-then-eq
 layout_field-returns-then-eq t c =
     let r = room_for _ _ _ _ _ c.requires.field_lt_field_count c.loop-laid.invariant.few c.requires.field_in_bounds c.loop-laid.invariant.whole in
-    let b = c.args.branch.now in
-    let e = c.interval_end-end.ensures in
-    let placed : Progress b.first.now b.second.now b.task.now (values_from b.point.words 0 b.field) b.field c.place_stretch-kept.new.room c.place_stretch-kept.result (number c.interval_end-end.result + 1) =
-    turn_stretch _ _ _ _ _ c.requires.field_lt_field_count _ _ e.reaches e.alike _ _ _ _ _ _ b.task.now.limit c.loop-laid.invariant.progress (omega (arith, r.start))
-    (rw c.layout_stretch.auto.room r.enough) _ _ c.in_ok-laid.was c.layout_stretch.ensures c.place_stretch-kept.ensures in
+    let placed = turned c.requires.field_lt_field_count c.interval_end-end.ensures c.loop-laid.invariant.progress r c.layout_stretch.auto.room c.in_ok-laid.was c.layout_stretch.ensures c.place_stretch-kept.ensures in
     let q = eqb-true (number c.interval_end-end.result) (number c.value_at-top.result) (sym c.eq.ensures ∙ c.if-eq.true) in
     laid_out _ _ _ _ _ c.requires.field_lt_field_count _ _ _ _ _ (ap number c.value_at-top.ensures) (rw q at placed) c.if-limit-next.false c.stamp.ensures
 
@@ -120,11 +105,7 @@ layout_field-loop-laid-smaller t c =
 pub layout_field-loop-laid-preserved : goal.layout_field-loop-laid-preserved
 layout_field-loop-laid-preserved t c =
     let r = room_for _ _ _ _ _ c.requires.field_lt_field_count c.loop-laid.invariant.few c.requires.field_in_bounds c.loop-laid.invariant.whole in
-    let b = c.args.branch.now in
-    let e = c.interval_end-end.ensures in
-    let placed : Progress b.first.now b.second.now b.task.now (values_from b.point.words 0 b.field) b.field c.place_stretch-kept.new.room c.place_stretch-kept.result (number c.interval_end-end.result + 1) =
-    turn_stretch _ _ _ _ _ c.requires.field_lt_field_count _ _ e.reaches e.alike _ _ _ _ _ _ b.task.now.limit c.loop-laid.invariant.progress (omega (arith, r.start))
-    (rw c.layout_stretch.auto.room r.enough) _ _ c.in_ok-laid.was c.layout_stretch.ensures c.place_stretch-kept.ensures in
+    let placed = turned c.requires.field_lt_field_count c.interval_end-end.ensures c.loop-laid.invariant.progress r c.layout_stretch.auto.room c.in_ok-laid.was c.layout_stretch.ensures c.place_stretch-kept.ensures in
     let back = same_len_mid (c.loop-laid.kept.next * row_words) (length c.loop-laid.room - c.loop-laid.kept.next * row_words) c.loop-laid.room c.layout_stretch.new.room c.layout_stretch.auto.room in
     let v = c.value_at-top in
     let k : Words v.result = record { upper_fits = omega (arith, v.type_inv); lower_fits = omega (arith, v.type_inv) } in

@@ -4,7 +4,7 @@ use Rattle.layout.specs.FormLaws.{search-among, values_length}
 use Rattle.layout.proofs.intervals.end_among.Goals as goal
 
 pub end_listed-requires : goal.end_listed-requires
-end_listed-requires c = (c.requires.field_lt_field_count.0, (c.requires.cuts_at.within, c.requires.field_lt_field_count.1))
+end_listed-requires c = (c.requires.field_lt_field_count, c.requires.cuts_at.within)
 
 pub returns-then-rows-le-LIMIT : goal.returns-then-rows-le-LIMIT
 returns-then-rows-le-LIMIT c =
@@ -14,4 +14,4 @@ returns-then-rows-le-LIMIT c =
 pub returns : goal.returns
 returns c =
     let e = c.end_of_all.ensures in
-    record { reaches = e.reaches; within = e.within; alike = search-among _ _ _ _ (values_length _ 0 _) c.requires.field_lt_field_count.0 _ _ e.alike }
+    record { reaches = e.reaches; within = e.within; alike = search-among _ _ _ _ (values_length _ 0 _) c.requires.field_lt_field_count _ _ e.alike }

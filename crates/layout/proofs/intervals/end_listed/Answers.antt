@@ -9,12 +9,12 @@ use borrow.Author.Rules.{rules}
 use Rattle.layout.proofs.intervals.end_listed.Goals as goal
 
 pub loop-row-init : goal.loop-row-init
-loop-row-init c = listed_start _ _ _ _ _ c.requires.1.1
+loop-row-init c = listed_start _ _ _ _ _ c.args.span.ordered
 
 pub range_end-end-requires : goal.range_end-end-requires
 range_end-end-requires c =
-    let row_in : c.from.result < length c.args.rows.now / row_words = omega (arith, c.from.ensures, c.requires.1.0.places c.loop-row.row-index c.loop-row-test.true) in
-    let h = row_in in record { field_lt_field_count = (search rules, search rules); from_bound = c.loop-row.invariant.reaches }
+    let row_in : c.from.result < length c.args.rows.now / row_words = omega (arith, c.from.ensures, c.requires.1.places c.loop-row.row-index c.loop-row-test.true) in
+    let h = row_in in (search rules, search rules)
 
 pub loop-row-preserved : goal.loop-row-preserved
 loop-row-preserved c = listed_more _ _ _ _ _ _ _ _ c.loop-row.invariant (rw c.from.ensures at c.range_end-end.ensures)

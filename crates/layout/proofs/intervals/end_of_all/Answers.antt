@@ -5,14 +5,10 @@ use mathlib.Core.Path.{◌≡◌}
 use lib.ListN.{length}
 use Rattle.policy.specs.Words.{row_words}
 use Rattle.layout.specs.StepsLaws.{among_start, ends_more}
-use borrow.Author.Rules.{rules}
 use Rattle.layout.proofs.intervals.end_of_all.Goals as goal
 
 pub loop-row-init : goal.loop-row-init
-loop-row-init c = among_start _ _ _ _ _ _ c.requires.1
-
-pub row_end-end-requires : goal.row_end-end-requires
-row_end-end-requires c = record { field_lt_field_count = (search rules, search rules); from_bound = c.loop-row.invariant.reaches }
+loop-row-init c = among_start _ _ _ _ _ _ c.args.span.ordered
 
 pub loop-row-preserved : goal.loop-row-preserved
 loop-row-preserved c = ends_more _ _ _ _ _ _ _ _ _ c.loop-row.invariant c.row_end-end.ensures

@@ -3,7 +3,7 @@ use Rattle.layout.specs.StepsLaws.{ends_both}
 use Rattle.layout.proofs.intervals.interval_end.Goals as goal
 
 pub end_among-requires : goal.end_among-requires
-end_among-requires c = record { field_lt_field_count = (c.requires.field_lt_field_count.0, c.end_among-best.ensures.reaches); cuts_at = c.requires.cuts_at_2 }
+end_among-requires c = record { field_lt_field_count = c.requires.field_lt_field_count; cuts_at = c.requires.cuts_at_2 }
 
 pub returns : goal.returns
-returns c = ends_both _ _ _ _ _ _ _ _ c.end_among-best.ensures c.end_among.ensures
+returns c = ends_both _ _ _ _ _ _ _ _ c.end_among-last.ensures c.end_among.ensures

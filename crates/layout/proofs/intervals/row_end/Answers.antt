@@ -11,7 +11,7 @@ pub returns-then-le : goal.returns-then-le
 returns-then-le c = ends_whole _ _ _ _ c.range_end-end.ensures (leb-true _ _ (sym (value-le _ _) ∙ sym c.le.ensures ∙ c.if-le.true))
 
 pub returns-then-not-active : goal.returns-then-not-active
-returns-then-not-active c = ends_passed _ _ 0 c.requires.from_bound (λ t. false≢true (sym c.if-not-active.true ∙ c.active.ensures ∙ t))
+returns-then-not-active c = ends_passed _ _ 0 c.args.span.ordered (λ t. false≢true (sym c.if-not-active.true ∙ c.active.ensures ∙ t))
 
 pub returns : goal.returns
 returns c = ends-under _ _ _ c.range_end-end.ensures
