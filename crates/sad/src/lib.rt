@@ -105,21 +105,8 @@ impl Head {
     }
 }
 
-#[tactic(auto, unfolding(crate::specs::Pairs::pair_at))]
-fn head_at(table: &[u64; TABLE_WORDS], place: usize) -> Head
-    requires { place < place_count }
-    ensures { result ≡ head_of (pair_at table.now place) }
-{
-    let at = place * PLACE_WORDS;
-    Head {
-        protocol: table[at],
-        spi_in: table[at + SPI_IN],
-        spi_out: table[at + SPI_OUT],
-        number: table[at + NUMBER],
-    }
-}
-
 // Whether the ranges of a place hold the values.
+#[tactic(auto, using(selectors::proofs::HeldLaws::held_five))]
 fn holds_at(table: &[u64; TABLE_WORDS], place: usize, values: &[u64; SELECTOR_WORDS]) -> bool
     requires { place < place_count }
     ensures { result ≡ holds (ranges_at table.now (place * place_words + head_words)) (values_of values.now) }
@@ -128,7 +115,7 @@ fn holds_at(table: &[u64; TABLE_WORDS], place: usize, values: &[u64; SELECTOR_WO
 }
 
 // Whether a place has the live pair of that name. Most places are passed over at their SPI.
-// Stays: word by word. A head that `head_at` reads whole is compared whole, without a branch: `is_live` took 62 ns, and 37 so.
+// Stays: word by word. A `Head` that is read whole is compared whole, without a branch: `is_live` took 62 ns, and 37 so.
 #[tactic(auto, unfolding(crate::specs::Pairs::pair_at))]
 fn is_named(table: &[u64; TABLE_WORDS], place: usize, protocol: u64, spi_in: u64) -> bool
     requires { place < place_count }
@@ -139,6 +126,7 @@ fn is_named(table: &[u64; TABLE_WORDS], place: usize, protocol: u64, spi_in: u64
 }
 
 // The place of the live pair of that name.
+#[tactic(auto, using(crate::specs::PairsLaws::first_found, crate::specs::PairsLaws::first_passed, crate::specs::PairsLaws::first_ended))]
 pub fn place_of(table: &[u64; TABLE_WORDS], protocol: u64, spi_in: u32) -> Option<usize>
     ensures { result ≡ place_of table.now protocol spi_in }
 {
@@ -159,6 +147,7 @@ pub fn is_live(table: &[u64; TABLE_WORDS], protocol: u64, spi_in: u32) -> bool
 
 // The lowest free place.
 // Stays: a loop beside that of `place_of`. Over a closure both would say of each of its calls that the place is one of the table's, and what it answers.
+#[tactic(auto, using(crate::specs::PairsLaws::first_found, crate::specs::PairsLaws::first_passed, crate::specs::PairsLaws::first_ended))]
 fn free_place(table: &[u64; TABLE_WORDS]) -> Option<usize>
     ensures { result ≡ free_place table.now }
 {
@@ -171,7 +160,7 @@ fn free_place(table: &[u64; TABLE_WORDS]) -> Option<usize>
 }
 
 // Whether there is such a place and its ranges hold the values. Who has the place of a pair need not look for it again.
-#[tactic(auto, unfolding(crate::specs::Pairs::fits_at, crate::specs::Pairs::pair_at))]
+#[tactic(auto, using(selectors::proofs::WordsLaws::selector_values), unfolding(crate::specs::Pairs::fits_at, crate::specs::Pairs::pair_at))]
 pub fn fits_at(table: &[u64; TABLE_WORDS], place: usize, selectors: Selectors) -> bool
     ensures { result ≡ fits_at table.now place (combination selectors) }
 {
@@ -188,7 +177,13 @@ fn best_pair(
 {
     let mut best = None;
     for place in 0..PLACES {
-        let head = head_at(table, place);
+        let at = place * PLACE_WORDS;
+        let head = Head {
+            protocol: table[at],
+            spi_in: table[at + SPI_IN],
+            spi_out: table[at + SPI_OUT],
+            number: table[at + NUMBER],
+        };
         if head.is_better(best, number) && holds_at(table, place, values) {
             best = Some(head);
         }
@@ -257,6 +252,7 @@ fn put_pair(table: &mut [u64], at: usize, pair: NewPair)
 }
 
 // Adds a pair at the lowest free place. 'An added pair: 25, 28, 26, 27'; a refusal changes nothing.
+#[tactic(auto, using(crate::specs::PairsLaws::first_bound))]
 pub fn add(table: &mut [u64; TABLE_WORDS], pair: NewPair) -> Result<(), PairError>
     ensures answer { result ≡ add_outcome (pairs table.old) pair }
     ensures table_after { table.new ≡ added table.old pair }
@@ -276,6 +272,7 @@ pub fn add(table: &mut [u64; TABLE_WORDS], pair: NewPair) -> Result<(), PairErro
 }
 
 // Removes a pair, so that its place is free. 'A removal, whatever it names: 29 only.'
+#[tactic(auto, using(crate::specs::PairsLaws::place_bound))]
 pub fn remove(table: &mut [u64; TABLE_WORDS], protocol: u64, spi_in: u32) -> Result<(), PairError>
     ensures answer { result ≡ remove_outcome (pairs table.old) protocol spi_in }
     ensures table_after { table.new ≡ removed table.old protocol spi_in }

@@ -37,6 +37,7 @@ impl Slots for [u64; CACHE_WORDS] {
 impl RowCache for [u64; CACHE_WORDS] {
     ghost held = { cache_from };
 
+    #[tactic(auto, using(crate::proofs::LentLaws::words_of_cache))]
     // The words afterwards are those of the cache, and not only words that are read as it.
     fn lookup(&mut self, rows: &[u64], direction: Direction, selectors: Selectors) -> Action
         ensures value { result ≡ (looked_up (cache_from self.old) rows.now direction (combination selectors)).action }
@@ -48,6 +49,7 @@ impl RowCache for [u64; CACHE_WORDS] {
 }
 
 // A lent cache as a value.
+#[tactic(auto, unfolding(crate::specs::Lent::cache_from))]
 pub fn load(lent: &[u64; CACHE_WORDS]) -> Cache
     ensures { result ≡ cache_from lent.now }
 {

@@ -108,6 +108,7 @@ fn store_row(words: &mut [u64], turn: Turn, rows: &[u64], row: usize) -> Turn
 }
 
 // A miss: the search of the rows.
+#[tactic(auto, using(crate::proofs::CacheLaws::row_bound))]
 fn miss<S: Slots>(cache: &mut S, rows: &[u64], direction: Direction, selectors: Selectors) -> Action
     ensures value { result ≡ (missed (S.held cache.old) rows.now (match_from 0 direction (policy_rows rows.now) (combination selectors))).action }
     ensures cache_after { S.held cache.new ≡ (missed (S.held cache.old) rows.now (match_from 0 direction (policy_rows rows.now) (combination selectors))).cache }
@@ -120,6 +121,7 @@ fn miss<S: Slots>(cache: &mut S, rows: &[u64], direction: Direction, selectors: 
 }
 
 // The slots first, and then the rows.
+#[tactic(auto, using(crate::proofs::CacheLaws::row_bound), unfolding(crate::specs::Cache::looked_up))]
 fn look_up<S: Slots>(
     cache: &mut S,
     rows: &[u64],

@@ -4,8 +4,8 @@ use Rattle.std.proofs.Common.{arith, ◌≡◌, sym, ◌∙◌}
 use Rattle.std.proofs.lemmas.Result.{err_from_is_err_and}
 use borrow.Author.Tests.{not-true, not-false}
 use Rattle.sad.specs.declared.PairError.TheVariants.{TableFull}
-use Rattle.sad.specs.Pairs.{place_count, free_at, free_place}
-use Rattle.sad.specs.PairsLaws.{no_place, first_bound, add_reserved, add_bad, add-live, add-full, add_at}
+use Rattle.sad.specs.Pairs.{free_place}
+use Rattle.sad.specs.PairsLaws.{no_place, add_reserved, add_bad, add-live, add-full, add_at}
 use Rattle.sad.proofs.add.Goals as goal
 
 pub returns-then-is_reserved : goal.returns-then-is_reserved
@@ -37,16 +37,6 @@ returns-in_err-place c =
     in
     let p = err_from_is_err_and c.from_residual.result c.from_residual.ensures.1 in
     record { answer = p.1 ∙ rw (p.2, none.1) h.0; table_after = h.1 }
-
-pub overflow_mul-place : goal.overflow_mul-place
-overflow_mul-place c =
-    let is_free : free_place c.args.table.now ≡ Some c.in_ok-place.place = grind arith in
-    omega (arith, first_bound (free_at c.args.table.now) 0 place_count _ is_free)
-
-pub put_pair-requires : goal.put_pair-requires
-put_pair-requires c =
-    let is_free : free_place c.args.table.now ≡ Some c.in_ok-place.place = grind arith in
-    omega (arith, first_bound (free_at c.args.table.now) 0 place_count _ is_free, c.told-table)
 
 pub returns : goal.returns
 returns c =

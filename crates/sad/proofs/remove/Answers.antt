@@ -4,7 +4,7 @@ use Rattle.std.proofs.Common.{arith, ◌≡◌, sym, ◌∙◌}
 use Rattle.std.proofs.lemmas.Result.{err_from_is_err_and}
 use Rattle.sad.specs.declared.PairError.TheVariants.{NothingToRemove}
 use Rattle.sad.specs.Pairs.{place_of}
-use Rattle.sad.specs.PairsLaws.{no_place, place_bound, removed_none, removed_at}
+use Rattle.sad.specs.PairsLaws.{no_place, removed_none, removed_at}
 use Rattle.sad.proofs.remove.Goals as goal
 
 pub returns-in_err-place : goal.returns-in_err-place
@@ -14,24 +14,6 @@ returns-in_err-place c =
     let h = removed_none a.table.now a.protocol a.spi_in (sym c.place_of.ensures ∙ none.0) in
     let p = err_from_is_err_and c.from_residual.result c.from_residual.ensures.1 in
     record { answer = p.1 ∙ rw (p.2, none.1) h.0; table_after = h.1 }
-
-pub overflow_mul-table : goal.overflow_mul-table
-overflow_mul-table c =
-    let a = c.args in
-    let is_at : place_of a.table.now a.protocol a.spi_in ≡ Some c.in_ok-place.place = grind arith in
-    omega (arith, place_bound a.table.now a.protocol a.spi_in _ is_at)
-
-pub offset_bounds-table-place : goal.offset_bounds-table-place
-offset_bounds-table-place c =
-    let a = c.args in
-    let is_at : place_of a.table.now a.protocol a.spi_in ≡ Some c.in_ok-place.place = grind arith in
-    omega (arith, place_bound a.table.now a.protocol a.spi_in _ is_at)
-
-pub bounds-table-place : goal.bounds-table-place
-bounds-table-place c =
-    let a = c.args in
-    let is_at : place_of a.table.now a.protocol a.spi_in ≡ Some c.in_ok-place.place = grind arith in
-    omega (arith, place_bound a.table.now a.protocol a.spi_in _ is_at)
 
 pub returns : goal.returns
 returns c =
