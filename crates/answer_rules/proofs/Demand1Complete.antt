@@ -6,7 +6,7 @@ use Rattle.selectors.specs.declared.Direction.{Direction}
 use Rattle.policy.specs.declared.Action.{Action}
 use Rattle.sad.specs.Pairs.{Pair, pairs, outcome_number, add_outcome, remove_outcome}
 use Rattle.sad.specs.declared.NewPair.{NewPair}
-use Rattle.sad.specs.Pairs.{Outcome, done}
+use Rattle.sad.specs.Pairs.{Outcome}
 use Rattle.sad.specs.declared.PairError.TheVariants.{ReservedSpi, AlreadyLive, TableFull, BadPair, NothingToRemove}
 use Rattle.verdicts.specs.Calls.{outbound_by, inbound_by, from_sa_by}
 use Rattle.verdicts.specs.Verdict.{verdict_number, carried}

@@ -90,7 +90,7 @@ outcome_of n =
     (cond (eqb n 26) (Err AlreadyLive)
     (cond (eqb n 27) (Err TableFull)
     (cond (eqb n 28) (Err BadPair)
-    Err NothingToRemove))))
+    (Err NothingToRemove)))))
 
 outcome_told : (o : Outcome) → outcome_of (outcome_number o) ≡ o
 outcome_told (Ok u) = refl

@@ -2,7 +2,7 @@
 use Rattle.std.specs.Prelude.{ℕ, ◌≡◌, true, false, List, length, Ok, Err}
 use Rattle.sad.specs.Pairs.{pairs, live}
 use Rattle.sad.specs.declared.NewPair.{NewPair}
-use Rattle.sad.specs.Pairs.{Outcome, done}
+use Rattle.sad.specs.Pairs.{Outcome}
 use Rattle.sad.specs.declared.PairError.TheVariants.{ReservedSpi, AlreadyLive, TableFull, BadPair as Malformed, NothingToRemove}
 use Rattle.answer_rules.specs.Terms.{LowSpi, BadPair}
 

@@ -29,9 +29,10 @@ pub fn outbound<C: RowCache>(
     let Some(packet) = packet::read(bytes, Direction::Out) else {
         return Verdict::NotReadable;
     };
+    let selectors = packet.selectors;
     let rows = spd::rows_of(policy, Direction::Out);
-    let action = cache.lookup(rows, Direction::Out, packet.selectors);
-    verdicts::outbound_action(table, packet.selectors, action)
+    let action = cache.lookup(rows, Direction::Out, selectors);
+    verdicts::outbound_action(table, selectors, action)
 }
 
 // A packet coming in from outside.

@@ -232,6 +232,7 @@ pub fn read(bytes: &[u8], direction: Direction) -> Option<Packet>
 }
 
 // Reads a triggering header, whose packet may be cut.
+// Stays: `read` has another test and another end; one function that is handed both is no plainer.
 #[tactic(auto, using(std::proofs::lemmas::Bool::Decides::nat_tests, crate::specs::StepsLaws::good_header, crate::specs::StepsLaws::good_upper), unfolding(crate::specs::Read::read_trigger, crate::specs::Read::trigger_readable))]
 pub fn read_trigger(bytes: &[u8], direction: Direction) -> Option<Packet>
     ensures { result ≡ read_trigger direction bytes.now }

@@ -12,7 +12,7 @@ use Rattle.decorrelate.specs.Form.{form}
 use Rattle.spd_cache.specs.Cache.{slot_count, replaced}
 use Rattle.acceptance.specs.Spd.{no_rules, accepting, if_accepted}
 use Rattle.sad.specs.declared.NewPair.{NewPair}
-use Rattle.sad.specs.Pairs.{Outcome, done}
+use Rattle.sad.specs.Pairs.{Outcome}
 use Rattle.sad.specs.declared.PairError.TheVariants.{ReservedSpi, AlreadyLive, TableFull, BadPair, NothingToRemove}
 use Rattle.sad.specs.Pairs.{Pair, named, add_outcome, remove_outcome, new_pair}
 use Rattle.verdicts.specs.Calls.{shows, for_gateway, outbound_by, inbound_by, from_sa_by}

@@ -10,7 +10,7 @@ use Rattle.acceptance.specs.declared.Caches.{Caches}
 use Rattle.acceptance.specs.Spd.{spd_words, no_rules, accepting, spd_after, empty_caches, caches_after, acceptance_number}
 use Rattle.spd.specs.Words.{rows_of, address_of}
 use Rattle.sad.specs.declared.NewPair.{NewPair}
-use Rattle.sad.specs.Pairs.{Outcome, done}
+use Rattle.sad.specs.Pairs.{Outcome}
 use Rattle.sad.specs.Pairs.{place_count, place_words, pairs, add_outcome, added, remove_outcome, removed, outcome_number}
 use Rattle.verdicts.specs.declared.Verdict.{Verdict}
 use Rattle.verdicts.specs.Calls.{from_sa_by}

@@ -17,6 +17,7 @@ pub enum Verdict {
     // 1: deliver.
     Deliver,
     // 2: protect, with N, the pair's protocol and its outbound SPI.
+    // Stays: three numbers, and no `Sa` among them. The theorems `out-2`, `in-4` and `carried` name them side by side, as C's words do.
     Protect(u64, u64, u64),
     // 3: an association is wanted, with N.
     Wanted(u64),
