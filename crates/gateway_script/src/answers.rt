@@ -1,73 +1,46 @@
-// The line of an answer: document 01's number, and what the answer carries.
-use acceptance::Acceptance;
+// The answer to an operation: document 01's number, and what the answer carries.
+use acceptance::AcceptError;
 use policy_text::Refusal;
-use sad::Outcome;
+use sad::PairError;
 use selectors::Direction;
+use std::fmt;
+use std::fmt::{Display, Formatter};
 use verdicts::Verdict;
 
-// Where the output cannot be written, the calls go on without it.
-pub fn say(rt: &impl Print, words: &str) {
-    let _ = println!(rt; "{words}");
+#[derive(Clone, Copy)]
+pub enum Answer {
+    Fresh,
+    Policy(Result<(), AcceptError>),
+    Pair(Result<(), PairError>),
+    Packet(Verdict),
 }
 
-fn show_number(rt: &impl Print, number: u64) {
-    let _ = print!(rt; "= {number}");
-}
-
-fn show_carried(rt: &impl Print, number: u64) {
-    let _ = print!(rt; " {number}");
-}
-
-pub fn show_verdict(rt: &impl Print, verdict: Verdict) {
-    show_number(rt, answer_numbers::verdict_number(verdict));
-    match verdict {
-        Verdict::Protect(number, protocol, spi) => show_protect(rt, number, protocol, spi),
-        Verdict::Wanted(number) => show_carried(rt, number),
-        Verdict::ToIpsec(protocol, spi) => show_sa(rt, protocol, spi),
-        _ => {}
-    }
-    say(rt, "");
-}
-
-fn show_protect(rt: &impl Print, number: u64, protocol: u64, spi: u64) {
-    show_carried(rt, number);
-    show_sa(rt, protocol, spi);
-}
-
-fn show_sa(rt: &impl Print, protocol: u64, spi: u64) {
-    show_carried(rt, protocol);
-    show_carried(rt, spi);
-}
-
-pub fn show_outcome(rt: &impl Print, outcome: Outcome) {
-    show_number(rt, answer_numbers::outcome_number(outcome));
-    say(rt, "");
-}
-
-pub fn show_acceptance(rt: &impl Print, acceptance: Acceptance) {
-    show_number(rt, answer_numbers::acceptance_number(acceptance));
-    match acceptance {
-        Acceptance::Refused(refusal) => show_refusal(rt, refusal),
-        Acceptance::TooLarge(direction) => show_direction(rt, direction),
-        _ => {}
-    }
-    say(rt, "");
-}
-
-fn show_refusal(rt: &impl Print, refusal: Refusal) {
-    match refusal {
-        Refusal::BadRow(row) => show_carried(rt, row as u64),
-        _ => {}
-    }
-}
-
-fn show_direction(rt: &impl Print, direction: Direction) {
-    match direction {
-        Direction::Out => {
-            let _ = print!(rt; " out");
-        }
-        Direction::In => {
-            let _ = print!(rt; " in");
+impl Display for Answer {
+    fn fmt<W: fmt::Write>(&self, f: &mut Formatter<W>) -> fmt::Result {
+        match *self {
+            Answer::Fresh => f.write_str("ok"),
+            Answer::Policy(accepted) => {
+                write!(f, "{}", answer_numbers::acceptance_number(accepted))?;
+                match accepted {
+                    Err(AcceptError::Refused(Refusal::BadRow(row))) => write!(f, " {row}"),
+                    Err(AcceptError::TooLarge(Direction::Out)) => f.write_str(" out"),
+                    Err(AcceptError::TooLarge(Direction::In)) => f.write_str(" in"),
+                    _ => Ok(()),
+                }
+            }
+            Answer::Pair(outcome) => write!(f, "{}", answer_numbers::outcome_number(outcome)),
+            Answer::Packet(verdict) => {
+                write!(f, "{}", answer_numbers::verdict_number(verdict))?;
+                match verdict {
+                    Verdict::Protect(number, protocol, spi) => write!(
+                        f,
+                        " {number} {protocol} {spi}"
+                    ),
+                    Verdict::Wanted(number) => write!(f, " {number}"),
+                    Verdict::ToIpsec(protocol, spi) => write!(f, " {protocol} {spi}"),
+                    _ => Ok(()),
+                }
+            }
         }
     }
 }

@@ -1,5 +1,5 @@
 -- The room for a normal-form file: it is never too short, and what is printed stands at its start. Assumes nothing.
-use Rattle.std.specs.Prelude.{ℕ, ◌+◌, ◌*◌, ◌≤◌, ◌<◌, ◌≡◌, List, take, drop}
+use Rattle.std.specs.Prelude.{ℕ, ◌+◌, ◌*◌, ◌≤◌, ◌<◌, ◌≡◌, List, take, drop, Result, Ok, Err}
 use native.Mathlib.Omega.{arith}
 use Rattle.std.proofs.Math.Decide.{dec_le}
 use Rattle.std.proofs.Math.Path.{refl}
@@ -14,8 +14,8 @@ use Rattle.policy_round_trip.proofs.AcceptedLaws.{parse_printable}
 use Rattle.policy_round_trip.proofs.EditionsLaws.{lawful}
 use Rattle.policy_round_trip.proofs.LengthLaws.{policy-length}
 use Rattle.policy_round_trip.proofs.NormalFormsLaws.{normal_form_printable}
-use Rattle.normal_form_file.specs.declared.Normalised.{Normalised}
-use Rattle.normal_form_file.specs.declared.Normalised.TheVariants.{Printed, Refused, TooLarge, NoRoom}
+use Rattle.normal_form_file.specs.declared.NormaliseError.{NormaliseError}
+use Rattle.normal_form_file.specs.declared.NormaliseError.TheVariants.{Refused, TooLarge, NoRoom}
 use Rattle.decorrelate.specs.Form.{form}
 use Rattle.normal_form_file.specs.Normalise.{form_file, normalised, normalised_bytes}
 
@@ -25,16 +25,16 @@ form_bytes = 9 + row_limit * 120
 
 -- What normalising may answer a policy of those rows with room for any normal-form file: its file at the start of the room, or 22. 'A call for one
 -- way alone tries 22 for that way only; 31 comes last', and here never comes.
-unfoldable pub PolicyAnswered : Direction → Rules → List ℕ → Normalised → Type 0
-PolicyAnswered d rs room (Printed n) = (length (form d rs) ≤ row_limit) × (n ≤ length room) × (take n room ≡ form_file d rs)
-PolicyAnswered d rs room (Refused r) = ⊥
-PolicyAnswered d rs room (TooLarge w) = (row_limit < length (form d rs)) × (w ≡ d)
-PolicyAnswered d rs room NoRoom = ⊥
+unfoldable pub PolicyAnswered : Direction → Rules → List ℕ → Result ℕ NormaliseError → Type 0
+PolicyAnswered d rs room (Ok n) = (length (form d rs) ≤ row_limit) × (n ≤ length room) × (take n room ≡ form_file d rs)
+PolicyAnswered d rs room (Err (Refused r)) = ⊥
+PolicyAnswered d rs room (Err (TooLarge w)) = (row_limit < length (form d rs)) × (w ≡ d)
+PolicyAnswered d rs room (Err NoRoom) = ⊥
 
 -- And a file: one that is no policy has its own refusal.
-unfoldable pub Answered : Direction → Policy → List ℕ → Normalised → Type 0
+unfoldable pub Answered : Direction → Policy → List ℕ → Result ℕ NormaliseError → Type 0
 Answered d (rows rs) room a = PolicyAnswered d rs room a
-Answered d (refused r) room a = a ≡ Refused r
+Answered d (refused r) room a = a ≡ Err (Refused r)
 
 -- A text that is the normal-form file of a file and direction.
 unfoldable pub IsFormFile : Direction → Policy → List ℕ → Type 0
@@ -66,12 +66,12 @@ module _ (d : Direction) (s room : List ℕ) (enough : form_bytes ≤ length roo
       by (rows rs) e = answered_rows rs e
 
 -- What is printed lies in the room, and is the normal-form file.
-pub printed_within : (d : Direction) (p : Policy) (room : List ℕ) (n : ℕ) → Answered d p room (Printed n) → n ≤ length room
+pub printed_within : (d : Direction) (p : Policy) (room : List ℕ) (n : ℕ) → Answered d p room (Ok n) → n ≤ length room
 unfolding Answered PolicyAnswered
 printed_within d (rows rs) room n a = a.1
 printed_within d (refused r) room n a = let z : ◌≡◌ {A = ℕ} 0 1 = cc in absurd (omega arith)
 
-pub printed_file : (d : Direction) (p : Policy) (room : List ℕ) (n : ℕ) → Answered d p room (Printed n) → IsFormFile d p (take n room)
+pub printed_file : (d : Direction) (p : Policy) (room : List ℕ) (n : ℕ) → Answered d p room (Ok n) → IsFormFile d p (take n room)
 unfolding Answered PolicyAnswered IsFormFile
 printed_file d (rows rs) room n a = (a.0, a.2)
 printed_file d (refused r) room n a = let z : ◌≡◌ {A = ℕ} 0 1 = cc in absurd (omega arith)

@@ -7,22 +7,27 @@
 // a normal-form file has its header line at least.
 #![tactic(auto)]
 
-ghost use Rattle.std.specs.Prelude.{◌≡◌, length};
+ghost use Rattle.std.specs.Prelude.{◌≡◌, Err};
 ghost use Rattle.policy.specs.Words.{row_limit};
-ghost use Rattle.normal_form_file.specs.Normalise.{normalised, normalised_number};
+ghost use Rattle.normal_form_file.specs.Normalise.{normalised};
 ghost use Rattle.policy_text.specs.Editions.{parse_policy};
-ghost use Rattle.normalise.specs.Command.{direction_asked, Within};
+ghost use Rattle.normalise.specs.Command.{direction_asked};
 ghost use Rattle.normalise.specs.RoomLaws.{form_bytes, Answered, IsFormFile};
 
-use normal_form_file::Normalised;
+use normal_form_file::NormaliseError;
 use policy::LIMIT;
-use policy_text::{Refusal, same};
+use policy_text::Refusal;
+use program_input::{Reason, read_full};
 use selectors::Direction;
 use std::env::FillError;
+use std::fmt::{Display, Formatter};
 use std::fs::File;
-use std::io;
 use std::io::Read;
 use std::rt::{Env, Files};
+use std::{fmt, io};
+
+// The bytes of the longest policy file that is read.
+const MOST_READ: usize = 131072;
 
 // The bytes of the longest normal-form file: its header, and at most 120 for each row.
 const FORM_BYTES: usize = 9 + LIMIT * 120;
@@ -30,34 +35,18 @@ const FORM_BYTES: usize = 9 + LIMIT * 120;
 // What the system says of a name that is too long.
 const ENAMETOOLONG: i32 = 36;
 
-// The direction that a word asks for, or none.
-#[derive(Clone, Copy)]
-enum Asked {
-    For(Direction),
-    Nothing,
-}
-
-// What came of reading the input: the count of its bytes, or that it does not end in the lent room, or that a read failed.
-#[derive(Clone, Copy)]
-enum Input {
-    Bytes(usize),
-    TooLong,
-    Failed(io::Error),
-}
-
 fn main(rt: HostRuntime) {
-    if is_given(&rt, 3) {
-        usage(&rt);
-        return;
-    }
     // A word that is missing or longer than the room counts as empty.
     let mut word = [0u8; 4];
     let n = rt.arg(1, &mut word).unwrap_or(0);
-    let asked = direction_asked(&word[..n]);
-    match asked {
-        Asked::For(direction) => from_argument(&rt, direction),
-        Asked::Nothing => usage(&rt),
+    match direction_asked(&word[..n]) {
+        Some(direction) if !is_given(&rt, 3) => from_argument(&rt, direction),
+        _ => usage(&rt),
     }
+}
+
+fn usage(rt: &impl Eprint) {
+    let _ = eprintln!(rt; "usage: normalise out|in [FILE]");
 }
 
 // Whether there is an argument of that number, the program's name being number 0.
@@ -66,27 +55,25 @@ fn is_given(rt: &impl Env, number: usize) -> bool {
     !matches!(rt.arg(number, &mut none), Err(FillError::NotPresent))
 }
 
-fn usage(rt: &impl Eprint) {
-    say(rt, "usage: normalise out|in [FILE]");
-}
-
-fn direction_asked(word: &[u8]) -> Asked
+// The direction that a word asks for. Stays: at a `match` on its bytes nine goals were open, seven of them ways to `_` at one byte each.
+#[tactic(auto, using(policy_text::proofs::BytesLaws::same_pointwise))]
+fn direction_asked(word: &[u8]) -> Option<Direction>
     ensures { result ≡ direction_asked word.now }
 {
-    if same(word, b"out") {
-        return Asked::For(Direction::Out);
+    if word == b"out".as_slice() {
+        return Some(Direction::Out);
     }
-    if same(word, b"in") {
-        return Asked::For(Direction::In);
+    if word == b"in".as_slice() {
+        return Some(Direction::In);
     }
-    Asked::Nothing
+    None
 }
 
 // The policy file that the second argument names, if there is one.
 fn from_argument(rt: &HostRuntime, direction: Direction) {
-    let mut name = [0u8; 4096];
-    match rt.arg(2, &mut name) {
-        Ok(n) => from_file(rt, &name[..n], direction),
+    let mut room = [0u8; 4096];
+    match rt.arg(2, &mut room) {
+        Ok(n) => from_name(rt, &room[..n], direction),
         Err(FillError::NotPresent) => from_standard_input(rt, direction),
         Err(FillError::TooLong) => fail(rt, "FILE", io::Error::from_raw_os_error(ENAMETOOLONG)),
     }
@@ -96,15 +83,15 @@ fn from_standard_input(rt: &HostRuntime, direction: Direction) {
     from_input(rt, &mut rt.reader(), "standard input", direction);
 }
 
-fn from_file(rt: &HostRuntime, name: &[u8], direction: Direction) {
-    if same(name, b"-") {
-        from_standard_input(rt, direction);
-        return;
+fn from_name(rt: &HostRuntime, name: &[u8], direction: Direction) {
+    match str::from_utf8(name) {
+        Ok("-") => from_standard_input(rt, direction),
+        Ok(path) => from_file(rt, path, direction),
+        Err(_) => say(rt, "FILE: name is not UTF-8"),
     }
-    let Ok(path) = str::from_utf8(name) else {
-        say(rt, "normalise: FILE: name is not UTF-8");
-        return;
-    };
+}
+
+fn from_file(rt: &HostRuntime, path: &str, direction: Direction) {
     match File::open(rt, path) {
         Ok(mut file) => from_input(rt, &mut file, path, direction),
         Err(error) => fail(rt, path, error),
@@ -113,42 +100,35 @@ fn from_file(rt: &HostRuntime, name: &[u8], direction: Direction) {
 
 // The room is one byte longer than the longest policy file that is read.
 fn from_input(rt: &HostRuntime, source: &mut impl Read, name: &str, direction: Direction) {
-    let mut room = [0u8; 131073];
-    let input = read_input(source, &mut room);
-    match input {
-        Input::Bytes(n) => print_normal_form(rt, &room[..n], direction),
-        Input::TooLong => say(rt, "normalise: policy file longer than 131072 bytes"),
-        Input::Failed(error) => fail(rt, name, error),
-    }
-}
-
-// Reads to the end of the input, or until the room is full.
-fn read_input(source: &mut impl Read, room: &mut [u8]) -> Input
-    ensures { Within (length room.new) result }
-{
-    let mut done: usize = 0;
-    while done < room.len() {
-        match source.read(&mut room[done..]) {
-            Ok(0) => return Input::Bytes(done),
-            Ok(more) => done += more,
-            Err(error) => return Input::Failed(error),
+    let mut room = [0u8; MOST_READ + 1];
+    let input = read_full(source, &mut room);
+    match input.outcome {
+        Ok(()) if input.count <= MOST_READ => {
+            print_normal_form(rt, &room[..input.count], direction);
         }
+        Ok(()) => say(
+            rt,
+            format_args!("policy file longer than {MOST_READ} bytes"),
+        ),
+        Err(error) => fail(rt, name, error),
     }
-    Input::TooLong
 }
 
 // Writes the normal-form file, or the line of the refusal.
 fn print_normal_form(rt: &HostRuntime, policy: &[u8], direction: Direction) {
     let mut text = [0u8; FORM_BYTES];
-    let answer = normal_form(policy, direction, &mut text);
-    match answer {
-        Normalised::Printed(count) => write_file(rt, &text[..count], policy, direction),
-        _ => refuse(rt, answer, policy, direction),
+    match normal_form(policy, direction, &mut text) {
+        Ok(count) => write_file(rt, &text[..count], policy, direction),
+        Err(error) => refuse(rt, error, policy, direction),
     }
 }
 
 // The room is never too short.
-fn normal_form(policy: &[u8], direction: Direction, text: &mut [u8; FORM_BYTES]) -> Normalised
+fn normal_form(
+    policy: &[u8],
+    direction: Direction,
+    text: &mut [u8; FORM_BYTES],
+) -> Result<usize, NormaliseError>
     ensures value { result ≡ normalised row_limit direction form_bytes (parse_policy row_limit policy.now) }
     ensures answered { Answered direction (parse_policy row_limit policy.now) text.new result }
 {
@@ -165,61 +145,39 @@ fn write_file(rt: &HostRuntime, text: &[u8], policy: &[u8], direction: Direction
 }
 
 // The line of a refusal: document 01's answer for the policy file and the direction.
-fn refuse(rt: &impl Eprint, answer: Normalised, policy: &[u8], direction: Direction)
-    requires { answer ≡ normalised row_limit direction form_bytes (parse_policy row_limit policy.now) }
+fn refuse(rt: &impl Eprint, error: NormaliseError, policy: &[u8], direction: Direction)
+    requires { Err error ≡ normalised row_limit direction form_bytes (parse_policy row_limit policy.now) }
 {
-    let number = answer_numbers::normalised_number(answer);
-    let _ = eprint!(rt; "normalise: {number}: ");
-    say_meaning(rt, answer);
+    let number = answer_numbers::normalised_number(Err(error));
+    say(rt, format_args!("{number}: {}", Meaning(error)));
 }
 
-// Document 01's words for an answer, with what it carries.
-fn say_meaning(rt: &impl Eprint, answer: Normalised) {
-    match answer {
-        Normalised::Printed(count) => say_count(rt, "done, bytes ", count),
-        Normalised::Refused(refusal) => say_refusal(rt, refusal),
-        Normalised::TooLarge(direction) => say_too_large(rt, direction),
-        Normalised::NoRoom => say(rt, "lent room shorter than the printed file"),
+// Document 01's words for a refusal, with what it carries.
+#[derive(Clone, Copy)]
+struct Meaning(NormaliseError);
+
+impl Display for Meaning {
+    fn fmt<W: fmt::Write>(&self, f: &mut Formatter<W>) -> fmt::Result {
+        let words = match self.0 {
+            NormaliseError::Refused(Refusal::NotHeader) =>
+                "first nine bytes aren't the header line",
+            NormaliseError::Refused(Refusal::NotEnded) => "last byte isn't LF",
+            NormaliseError::Refused(Refusal::TooMany) => "more than 256 rows",
+            NormaliseError::Refused(Refusal::BadRow(row)) => return write!(f, "bad row {row}"),
+            NormaliseError::TooLarge(Direction::Out) => "normal form over 256 rows (out)",
+            NormaliseError::TooLarge(Direction::In) => "normal form over 256 rows (in)",
+            NormaliseError::NoRoom => "lent room shorter than the printed file",
+        };
+        f.write_str(words)
     }
-}
-
-fn say_refusal(rt: &impl Eprint, refusal: Refusal) {
-    match refusal {
-        Refusal::NotHeader => say(rt, "first nine bytes aren't the header line"),
-        Refusal::NotEnded => say(rt, "last byte isn't LF"),
-        Refusal::TooMany => say(rt, "more than 256 rows"),
-        Refusal::BadRow(row) => say_count(rt, "bad row ", row),
-    }
-}
-
-fn say_too_large(rt: &impl Eprint, direction: Direction) {
-    match direction {
-        Direction::Out => say(rt, "normal form over 256 rows (out)"),
-        Direction::In => say(rt, "normal form over 256 rows (in)"),
-    }
-}
-
-fn say_count(rt: &impl Eprint, words: &str, count: usize) {
-    let _ = eprintln!(rt; "{words}{count}");
-}
-
-// A line on standard error. Where it cannot be written, nothing more is said.
-fn say(rt: &impl Eprint, words: &str) {
-    let _ = rt.eprintln(words);
 }
 
 // Says what failed, and the system's reason.
-fn fail(rt: &HostRuntime, what: &str, error: io::Error) {
-    let _ = match format!(in rt.alloc(); "{error}") {
-        Ok(text) => eprintln!(rt; "normalise: {what}: {}", reason(text.as_str())),
-        Err(_) => eprintln!(rt; "normalise: {what}: {error}"),
-    };
+fn fail(rt: &impl Eprint, what: &str, error: io::Error) {
+    say(rt, format_args!("{what}: {}", Reason(error)));
 }
 
-// An error's text without its number.
-fn reason(text: &str) -> &str {
-    match text.split_once(" (os error ") {
-        Some((reason, _)) => reason,
-        None => text,
-    }
+// A line on standard error. Where it cannot be written, nothing more is said.
+fn say(rt: &impl Eprint, words: impl Display + Drop) {
+    let _ = eprintln!(rt; "normalise: {words}");
 }

@@ -1,106 +1,57 @@
 // Writes the normal forms, for out and for in, of each policy file on standard input. A tilde parts the files.
 #![tactic(auto)]
 
-ghost use Rattle.std.specs.Prelude.{◌≤◌, length};
-
-use normal_form_file::Normalised;
+use normal_form_file::NormaliseError;
 use policy_text::Refusal;
+use program_input::read_full;
 use selectors::Direction;
-use std::io;
-use std::io::Read;
+use std::fmt::{Display, Formatter};
+use std::{fmt, io};
 
 // Of standard input 65,536 bytes are read, and no more.
 fn main(rt: HostRuntime) -> io::Result<()> {
-    let mut text = [0u8; 65536];
-    let n = read_full(&mut rt.reader(), &mut text);
-    each_file(&rt, &text[..n])
-}
-
-// Reads until the room is full, the input ends or a read fails. What was read stands at the start of the room.
-fn read_full(input: &mut impl Read, room: &mut [u8]) -> usize
-    ensures { result ≤ length room.new }
-{
-    let mut done: usize = 0;
-    while done < room.len() {
-        let Ok(more) = input.read(&mut room[done..]) else {
-            return done;
-        };
-        if more == 0 {
-            return done;
-        }
-        done += more;
-    }
-    done
+    let mut room = [0u8; 65536];
+    let input = read_full(&mut rt.reader(), &mut room);
+    each_file(&rt, &room[..input.count])
 }
 
 fn each_file(rt: &impl Print, text: &[u8]) -> io::Result<()> {
-    let mut at = 0;
-    while at < text.len() {
-        let end = file_end(text, at);
-        one_file(rt, &text[at..end])?;
-        at = end + 1;
+    for part in text.split_inclusive(|byte| *byte == b'~') {
+        let file = part.strip_suffix(b"~").unwrap_or(part);
+        print!(rt; "out: ")?;
+        show(rt, file, Direction::Out)?;
+        print!(rt; "in: ")?;
+        show(rt, file, Direction::In)?;
     }
     Ok(())
-}
-
-fn one_file(rt: &impl Print, file: &[u8]) -> io::Result<()> {
-    print!(rt; "out: ")?;
-    show(rt, file, Direction::Out)?;
-    print!(rt; "in: ")?;
-    show(rt, file, Direction::In)
-}
-
-// Where the file that begins at `from` ends.
-fn file_end(text: &[u8], from: usize) -> usize
-    requires { from ≤ length text.now }
-    ensures { (from ≤ result) × (result ≤ length text.now) }
-{
-    let mut end = from;
-    while end < text.len() {
-        if text[end] == b'~' {
-            return end;
-        }
-        end += 1;
-    }
-    end
 }
 
 fn show(rt: &impl Print, file: &[u8], direction: Direction) -> io::Result<()> {
-    let mut out = [0u8; 32768];
-    let answer = normal_form_file::normalise(file, direction, &mut out);
-    match answer {
-        Normalised::Printed(count) => show_file(rt, &out, count),
-        Normalised::Refused(refusal) => show_refusal(rt, refusal),
-        Normalised::TooLarge(_) => say(rt, "22, the normal form has too many rows"),
-        Normalised::NoRoom => say(rt, "31, no room"),
+    let mut room = [0u8; 32768];
+    match normal_form_file::normalise(file, direction, &mut room) {
+        Ok(count) => {
+            println!(rt; "5, {count} bytes")?;
+            rt.write_all(&room[..count])
+        }
+        Err(error) => println!(rt; "{}", Words(error)),
     }
 }
 
-fn show_refusal(rt: &impl Print, refusal: Refusal) -> io::Result<()> {
-    match refusal {
-        Refusal::NotHeader => say(rt, "23, not the header line"),
-        Refusal::NotEnded => say(rt, "24, the last byte is not LF"),
-        Refusal::TooMany => say(rt, "21, too many rows"),
-        Refusal::BadRow(row) => say_row(rt, row),
+// The number of an answer that is no normal form, and what it says.
+#[derive(Clone, Copy)]
+struct Words(NormaliseError);
+
+impl Display for Words {
+    fn fmt<W: fmt::Write>(&self, f: &mut Formatter<W>) -> fmt::Result {
+        match self.0 {
+            NormaliseError::Refused(Refusal::NotHeader) => f.write_str("23, not the header line"),
+            NormaliseError::Refused(Refusal::NotEnded) => f.write_str(
+                "24, the last byte is not LF",
+            ),
+            NormaliseError::Refused(Refusal::TooMany) => f.write_str("21, too many rows"),
+            NormaliseError::Refused(Refusal::BadRow(row)) => write!(f, "20, bad row {row}"),
+            NormaliseError::TooLarge(_) => f.write_str("22, the normal form has too many rows"),
+            NormaliseError::NoRoom => f.write_str("31, no room"),
+        }
     }
-}
-
-fn show_file(rt: &impl Print, out: &[u8], count: usize) -> io::Result<()> {
-    println!(rt; "5, {count} bytes")?;
-    write_first(rt, out, count)
-}
-
-fn write_first(rt: &impl Print, out: &[u8], count: usize) -> io::Result<()> {
-    if count <= out.len() {
-        rt.write_all(&out[..count])?;
-    }
-    Ok(())
-}
-
-fn say_row(rt: &impl Print, row: usize) -> io::Result<()> {
-    println!(rt; "20, bad row {row}")
-}
-
-fn say(rt: &impl Print, words: &str) -> io::Result<()> {
-    println!(rt; "{words}")
 }

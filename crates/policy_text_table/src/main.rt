@@ -2,136 +2,77 @@
 // writes the rows again as they are printed for `out`.
 #![tactic(auto)]
 
-ghost use Rattle.std.specs.Prelude.{◌≤◌, ◌<◌, length};
-
-use policy::{LIMIT, POLICY_WORDS, ROW_WORDS};
+use policy::{LIMIT, POLICY_WORDS};
 use policy_parse::parse;
-use policy_print::{Printed, print};
-use policy_text::{Edition, Parsed, Refusal, before};
+use policy_print::{NoRoom, print};
+use policy_text::{Edition, ParseError, Refusal};
+use program_input::read_full;
 use selectors::Direction;
+use std::fmt::{Display, Formatter};
 use std::fs::File;
-use std::io;
-use std::io::Read;
 use std::rt::Files;
+use std::{fmt, io};
 
 // Of standard input 4,096 bytes are read, and no more; of each file 65,536.
 fn main(rt: HostRuntime) -> io::Result<()> {
-    let mut names = [0u8; 4096];
-    let n = read_full(&mut rt.reader(), &mut names);
-    each_name(&rt, &names[..n])
-}
-
-// Reads until the room is full, the input ends or a read fails. What was read stands at the start of the room.
-fn read_full(input: &mut impl Read, room: &mut [u8]) -> usize
-    ensures { result ≤ length room.new }
-{
-    let mut done: usize = 0;
-    while done < room.len() {
-        let Ok(more) = input.read(&mut room[done..]) else {
-            return done;
-        };
-        if more == 0 {
-            return done;
-        }
-        done += more;
-    }
-    done
+    let mut room = [0u8; 4096];
+    let input = read_full(&mut rt.reader(), &mut room);
+    each_name(&rt, &room[..input.count])
 }
 
 fn each_name(rt: &(impl Files + Print), names: &[u8]) -> io::Result<()> {
-    let mut at: usize = 0;
-    while at < names.len() {
-        let name = before(&names[at..], b'\n');
-        one_file(rt, name)?;
-        at = next(names.len(), at, name.len());
+    for line in names.split_inclusive(|byte| *byte == b'\n') {
+        one_file(rt, line.strip_suffix(b"\n").unwrap_or(line))?;
     }
     Ok(())
-}
-
-// The place after a name and its LF, or the end.
-fn next(end: usize, at: usize, length: usize) -> usize
-    requires { at < end }
-    ensures { (at < result) × (result ≤ end) }
-{
-    if end - at <= length {
-        return end;
-    }
-    at + length + 1
 }
 
 fn one_file(rt: &(impl Files + Print), name: &[u8]) -> io::Result<()> {
     rt.write_all(name)?;
     print!(rt; ": ")?;
     let Ok(path) = str::from_utf8(name) else {
-        return say(rt, "no such file");
+        return println!(rt; "no such file");
     };
     let Ok(mut file) = File::open(rt, path) else {
-        return say(rt, "no such file");
+        return println!(rt; "no such file");
     };
-    let mut bytes = [0u8; 65536];
-    let n = read_full(&mut file, &mut bytes);
-    answer(rt, &bytes[..n])
-}
-
-fn answer(rt: &impl Print, bytes: &[u8]) -> io::Result<()> {
-    let mut rows = [0u64; POLICY_WORDS];
-    let parsed = parse(bytes, LIMIT, &mut rows);
-    show(rt, parsed, &rows)
+    let mut room = [0u8; 65536];
+    let input = read_full(&mut file, &mut room);
+    answer(rt, &room[..input.count])
 }
 
 // The number of the answer, and what it carries.
-fn show(rt: &impl Print, parsed: Parsed, rows: &[u64]) -> io::Result<()> {
-    match parsed {
-        Parsed::Rows(edition, n) => show_rows(rt, edition, rows, n),
-        Parsed::Refused(refusal) => show_refusal(rt, refusal),
-        Parsed::NoRoom => say(rt, "no room"),
+fn answer(rt: &impl Print, bytes: &[u8]) -> io::Result<()> {
+    let mut room = [0u64; POLICY_WORDS];
+    match parse(bytes, LIMIT, &mut room) {
+        Ok(policy) => {
+            println!(rt; "5, rows {}", policy.count)?;
+            print_rows(rt, policy.edition, policy::first_rows(&room, policy.count))
+        }
+        Err(error) => println!(rt; "{}", Numbered(error)),
     }
-}
-
-fn show_refusal(rt: &impl Print, refusal: Refusal) -> io::Result<()> {
-    match refusal {
-        Refusal::NotHeader => say(rt, "23"),
-        Refusal::NotEnded => say(rt, "24"),
-        Refusal::TooMany => say(rt, "21"),
-        Refusal::BadRow(i) => show_count(rt, "20, row ", i),
-    }
-}
-
-fn show_rows(rt: &impl Print, edition: Edition, rows: &[u64], n: usize) -> io::Result<()> {
-    show_count(rt, "5, rows ", n)?;
-    if n <= LIMIT {
-        print_first(rt, edition, rows, n * ROW_WORDS)?;
-    }
-    Ok(())
-}
-
-fn print_first(rt: &impl Print, edition: Edition, rows: &[u64], words: usize) -> io::Result<()> {
-    if words <= rows.len() {
-        print_rows(rt, edition, &rows[..words])?;
-    }
-    Ok(())
 }
 
 fn print_rows(rt: &impl Print, edition: Edition, rows: &[u64]) -> io::Result<()> {
-    let mut text = [0u8; 30000];
-    let printed = print(edition, rows, Direction::Out, &mut text);
-    match printed {
-        Printed::Bytes(n) => write_first(rt, &text, n),
-        Printed::NoRoom => say(rt, "31"),
+    let mut room = [0u8; 30000];
+    match print(edition, rows, Direction::Out, &mut room) {
+        Ok(count) => rt.write_all(&room[..count]),
+        Err(NoRoom) => println!(rt; "31"),
     }
 }
 
-fn write_first(rt: &impl Print, text: &[u8], n: usize) -> io::Result<()> {
-    if n <= text.len() {
-        rt.write_all(&text[..n])?;
+// The number of an error, and what it carries.
+#[derive(Clone, Copy)]
+struct Numbered(ParseError);
+
+impl Display for Numbered {
+    fn fmt<W: fmt::Write>(&self, f: &mut Formatter<W>) -> fmt::Result {
+        match self.0 {
+            ParseError::Refused(Refusal::NotHeader) => f.write_str("23"),
+            ParseError::Refused(Refusal::NotEnded) => f.write_str("24"),
+            ParseError::Refused(Refusal::TooMany) => f.write_str("21"),
+            ParseError::Refused(Refusal::BadRow(row)) => write!(f, "20, row {row}"),
+            ParseError::NoRoom => f.write_str("no room"),
+        }
     }
-    Ok(())
-}
-
-fn show_count(rt: &impl Print, name: &str, n: usize) -> io::Result<()> {
-    println!(rt; "{name}{n}")
-}
-
-fn say(rt: &impl Print, words: &str) -> io::Result<()> {
-    println!(rt; "{words}")
 }
