@@ -1,10 +1,6 @@
--- `specksonne::specksonne_outbound` meets its contract: the answer in numbers, and the cache as it was left in place. Assumes nothing.
-use mathlib.Core.Path.{refl}
+-- `specksonne::specksonne_outbound` meets its contract: the words of the cache, as it was left in place. Assumes nothing.
 use Rattle.spd_cache.proofs.LentLaws.{words_of_cache}
 use Rattle.specksonne.proofs.specksonne_outbound.Goals as goal
 
-pub returns : goal.returns
-returns c =
-    let call = c.outbound-going_out in
-    rw (c.verdict_number.ensures, c.verdict_carries.ensures, call.ensures.value, words_of_cache call.new.cache call.array_long _ call.ensures.cache_after)
-    (record { value = refl; carries_after = refl; cache_after = refl })
+pub returns-clause-cache_after : goal.returns-clause-cache_after
+returns-clause-cache_after c = let call = c.outbound-going_out in words_of_cache call.new.cache call.array_long _ call.ensures.cache_after
