@@ -11,6 +11,7 @@ use sad::NewPair;
 use selectors::Direction;
 use selectors::words::{RANGES_WORDS, ranges_at};
 
+// Stays: a number, since C gives one, and any.
 pub fn direction_from(number: u64) -> Direction
     ensures { result ≡ direction_of_number number }
 {
@@ -38,6 +39,7 @@ pub fn pair_from(
     }
 }
 
+// Stays: two numbers for an action, since that is how C gets it.
 pub fn action_kind(action: Action) -> u64
     ensures { result ≡ kind_of_action action }
 {

@@ -1,4 +1,5 @@
 // Document 01's number of each answer, and what the answer carries.
+// Stays: functions, since the answers' types are other crates', and `From` and methods are written where a type is.
 #![tactic(auto)]
 
 ghost use Rattle.std.specs.Prelude.{◌≡◌};

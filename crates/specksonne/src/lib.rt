@@ -218,6 +218,7 @@ pub extern "C" fn specksonne_search(
 }
 
 // The same over a lent list of row records (`row_records::search`).
+// Stays beside `specksonne_search`: C calls both by name, each over its own layout of rows.
 #[unsafe(no_mangle)]
 pub extern "C" fn specksonne_search_records(
     rows: &[Row],
