@@ -63,7 +63,7 @@ pub fn in_second(code: u32) -> bool
     code / 4 % 2 == 1
 }
 
-// A row's place in a policy, as lists of places hold it.
+// A row's place in a policy, as lists of places hold it. Stays beside `usize::from`: two must-fail edits are about it.
 pub fn wide(row: u16) -> usize
     ensures { result ≡ row }
 {
@@ -88,6 +88,7 @@ fn cover(
         return false;
     }
     let mut rest = *bounds;
+    // Stays: a `while`, since it ends when the budget is used up, and counts no index.
     while 0 < *left {
         *left -= 1;
         let cut = match survey(policies, list, field, &rest) {

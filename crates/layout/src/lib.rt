@@ -117,6 +117,7 @@ fn layout_field(branch: &Branch, room: &mut [u64]) -> Result<usize, LayoutError>
     cutting(branch.second, branch.of_second, field, &mut other_cuts);
     let mut kept = START;
     let mut from = Value::ZERO;
+    // Stays: a `loop`, since it goes from interval to interval until the last value, and counts no index.
     loop {
         let end = interval_end(branch, &cuts, &other_cuts, Span { from, last: top });
         let base = kept.next * ROW_WORDS;

@@ -31,7 +31,7 @@ pub enum RowDirection {
     Both,
 }
 
-// A row as a record: its words, each with the meaning that it has in a flat list of words.
+// A row as a record: its words, each with the meaning that it has in a flat list of words. Stays: direction and action are words, since C lends rows.
 #[repr(C)]
 #[derive(Clone, Copy, Debug, PartialEq, Eq)]
 pub struct Row {

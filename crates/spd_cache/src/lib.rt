@@ -74,7 +74,7 @@ fn used(words: &[u64], count: usize) -> &[u64]
     &words[..count.min(SLOTS) * ROW_WORDS]
 }
 
-// The action of the row at a place of `rows`.
+// The action of the row at a place of `rows`. Stays: that the row is there is asked for, since a type of such places would be made where it is used up.
 fn action_at(rows: &[u64], row: usize) -> Action
     requires { row * row_words + row_words ≤ length rows.now }
     ensures { result ≡ action_at rows.now row }
@@ -175,6 +175,7 @@ impl Cache {
         }
     }
 
+    // Stays: a form by place (docs/DECISIONS.md), by value, with the cache handed back.
     pub fn lookup(self, rows: &[u64], direction: Direction, selectors: Selectors) -> Looked
         ensures { result ≡ looked_up self rows.now direction (combination selectors) }
     {
