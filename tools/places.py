@@ -2,7 +2,7 @@
 """places.py [TREE]: counts, in the Rattle sources of a tree, the places that docs/DESIGN-PASS.md is about, and lists them.
 
 1 own enums (with their variants), flags in structs, numbers with a name; 2 functions whose texts are the same but for names and numbers;
-3 `while` and `loop`; 4 functions that compare, convert or print by hand; 5 facts that stand in the contracts of three or more functions;
+3 `while`, `loop`, and `for` over numbers; 4 functions that compare, convert or print by hand; 5 facts that stand in the contracts of three or more functions;
 6 arrays, by the functions and structs that name them; 7 functions passed or kept; 8 answers in proofs. What a place is to be, a reader says.
 """
 import collections
@@ -66,7 +66,7 @@ def main():
     head(1, "own enums", len(enums))
     for place, name, variants in enums:
         print(f"   {place} {name}: " + ", ".join(variant + payload for variant, payload in variants))
-    flags = [(place, name, flag) for place, name, text in items("struct") for flag in re.findall(r"^ +(?:pub )?(\w+): bool,", text, re.M)]
+    flags = [(place, name, flag) for place, name, text in items("struct") for flag in re.findall(r"^ +(?:pub(?:\(crate\))? )?(\w+): bool,", text, re.M)]
     head(1, "flags in structs", len(flags))
     for flag in flags:
         print("   " + " ".join(flag))
@@ -88,6 +88,10 @@ def main():
     loops = [(where(path), line.strip()) for path in SOURCES for line in text_of(path).split("\n") if re.match(r" *(while|loop)\b", line)]
     head(3, "while and loop", len(loops))
     for loop in loops:
+        print("   " + ": ".join(loop))
+    indexed = [(where(path), line.strip()) for path in SOURCES for line in text_of(path).split("\n") if re.match(r" *for \w+ in [^ ]*\.\.", line)]
+    head(3, "for over a range of numbers", len(indexed))
+    for loop in indexed:
         print("   " + ": ".join(loop))
 
     by_hand = [f"{place}::{name}" for place, name, _ in functions if re.match(r"(same|less|is_same|eq|show|say|\w+_number|\w+_carries|direction_of|action_of|\w+_from|to_\w+)(_|$)", name)]
