@@ -59,6 +59,7 @@ pub fn action_number(action: Action) -> u64
     }
 }
 
+// Stays: a flag and a number, since that is how C gets a place.
 pub fn is_found(found: Option<usize>) -> bool
     ensures { result ≡ is_found found }
 {

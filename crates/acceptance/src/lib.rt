@@ -48,7 +48,7 @@ impl Caches {
     }
 }
 
-// Writes the address, and the counts and the rooms of both directions.
+// Writes the address, and the counts and the rooms of both directions. Stays: arrays with a count, since a gateway holds whole rooms, zeros behind the rows.
 fn write(
     words: &mut [u64; SPD_WORDS],
     address: u64,

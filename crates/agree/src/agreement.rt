@@ -110,6 +110,7 @@ impl Entries<'_> {
         ensures { result ≡ true → Peace (sides_in self.now) (is_second asked.side) asked.row from (suc (length self.now.codes.now)) bounds.now.words }
     {
         let mut k = from;
+        // Stays: a `loop`, since it goes from conflict to conflict, and counts no index.
         loop {
             let shared = self.common(k, bounds);
             if !self.hidden(asked, k, &shared, left) {

@@ -15,7 +15,8 @@ use spd::SPD_WORDS;
 use spd_cache::RowCache;
 use verdicts::Verdict;
 
-// A packet going out: `policy` has the normal-form rows that the gateway holds, `table` its pairs, `cache` is that of the direction.
+// A packet going out: `policy` has the normal-form rows that the gateway holds, `table` its pairs, `cache` is that of the direction. Stays beside
+// `inbound`: what is asked before the search, and what becomes of the action, differ.
 #[tactic(auto, unfolding(crate::specs::Cached::outbound_cached, verdicts::specs::Calls::outbound_by))]
 pub fn outbound<C: RowCache>(
     policy: &[u64; SPD_WORDS],

@@ -15,7 +15,8 @@ pub(crate) struct Task {
 }
 
 // A field of two policies that is to be laid out behind the point's values of those before it, and the rows of each policy that hold these, by
-// their places. Behind the last field it is the leaf.
+// their places. Behind the last field it is the leaf. Stays: both policies and not `Policies`, since a struct in a struct, both with references, is
+// not covered ('is given one at other lifetimes').
 #[derive(Clone, Copy)]
 pub(crate) struct Branch<'t, 'p, 'q, 'a, 'b> {
     pub task: &'t Task,

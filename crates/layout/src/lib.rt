@@ -47,7 +47,8 @@ pub enum LayoutError {
     NoRoom,
 }
 
-// The rows from `last` to `next` are those of the last interval, which begins at the value `low`; those before it are done.
+// The rows from `last` to `next` are those of the last interval, which begins at the value `low`; those before it are done. Stays: that
+// `last` is at most `next` is asked for; as a ghost field it was tried, and in the loop `invariant_of-kept` stayed open.
 #[derive(Clone, Copy)]
 struct Kept {
     last: usize,

@@ -23,7 +23,7 @@ use selectors::{
 #[derive(Clone, Copy, Debug, PartialEq, Eq)]
 pub struct NoRoom;
 
-// The kinds of fields that edition 1 has.
+// The kinds of fields that edition 1 has. Stays: an enum and no trait, since the contracts name a field of the edition by it (`field_of`).
 #[derive(Clone, Copy)]
 enum Kind {
     Address,

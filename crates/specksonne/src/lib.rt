@@ -355,7 +355,7 @@ pub extern "C" fn specksonne_is_live(table: &[u64; TABLE_WORDS], protocol: u64, 
     sad::is_live(table, protocol, spi_in)
 }
 
-// A packet going out (`gateway::outbound`).
+// A packet going out (`gateway::outbound`). Stays beside the two below: C calls each by name, and each promises what its own call does.
 #[unsafe(no_mangle)]
 pub extern "C" fn specksonne_outbound(
     policy: &[u64; SPD_WORDS],
