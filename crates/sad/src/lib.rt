@@ -178,6 +178,9 @@ fn best_pair(
     let mut best = None;
     for place in 0..PLACES {
         let at = place * PLACE_WORDS;
+        if table[at + NUMBER] != number {
+            continue;
+        }
         let head = Head {
             protocol: table[at],
             spi_in: table[at + SPI_IN],

@@ -16,10 +16,3 @@ pub returns-then-low-high : goal.returns-then-low-high
 returns-then-low-high c =
     let a = c.args in
     sym (other_upper a.self.low a.self.high a.value c.if-low-high.true (search rules) (search rules) c.if-value-low.false)
-
-pub returns-then-lt : goal.returns-then-lt
-returns-then-lt c = sym (contains_below _ _ (ltb-true _ _ (sym (value-lt _ _) ∙ sym c.lt.ensures ∙ c.if-lt.true)))
-
-pub returns : goal.returns
-returns c =
-    c.le.ensures ∙ value-le _ _ ∙ contains_from _ _ (ltb-false _ _ (sym (value-lt _ _) ∙ sym c.lt.ensures ∙ c.if-lt.false))
