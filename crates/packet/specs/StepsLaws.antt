@@ -1,6 +1,7 @@
 -- What the definitions of reading say, by the tests that lead to each case. Assumes nothing.
 use Rattle.std.specs.Prelude.{ℕ, ◌+◌, ◌*◌, ◌/◌, ◌≤◌, ◌<◌, ◌≡◌, true, false, cond, ◌&&◌, List, length}
 use Rattle.std.proofs.Common.{arith}
+use Rattle.std.proofs.Math.Decide.{ℕ_discrete}
 use Rattle.std.proofs.Math.Path.{refl}
 use Rattle.std.proofs.Math.Bool.{Bool, and-false}
 use Rattle.std.proofs.lemmas.Bool.{false≢true}
@@ -9,6 +10,8 @@ use Rattle.std.proofs.Math.Dec.{leb, eqb}
 use Rattle.std.proofs.Math.ListN.{get_or-eq_default}
 use borrow.Author.Tests.{leb-true, le-leb, lt-leb, eq-eqb, ne_eqb}
 use Rattle.selectors.proofs.RangeLaws.{both_true}
+use Rattle.selectors.specs.Value.{number}
+use Rattle.selectors.specs.declared.Value.{Value}
 use Rattle.selectors.specs.declared.Direction.{Direction}
 use Rattle.selectors.specs.declared.Direction.TheVariants.{Out, In}
 use Rattle.packet.specs.Header.{byte, two, shortest_header, shortest_field, ip_version, version, header_field, header_end, total_length, fragment_offset, protocol}
@@ -107,10 +110,42 @@ module _ (p : List ℕ) (end : ℕ) where
   unfolding shown
   shown_other h i = rw (h, i, and-false (eqb (fragment_offset p) 0))
 
--- An error type is at most 12.
+-- An error type is one of 3 to 5 and 11 to 12.
+pub error_low : (n : ℕ) → 3 ≤ n → n ≤ 5 → error_type n ≡ true
+unfolding error_type
+error_low n l h = by (ℕ_discrete n 3) (ℕ_discrete n 4)
+  where
+    by : Dec (n ≡ 3) → Dec (n ≡ 4) → error_type n ≡ true
+    by (yes e) d = rw e
+    by (no a) (yes e) = rw e
+    by (no a) (no b) = let e : n ≡ 5 = omega arith in rw e
+
+pub error_high : (n : ℕ) → 11 ≤ n → n ≤ 12 → error_type n ≡ true
+unfolding error_type
+error_high n l h = by (ℕ_discrete n 11)
+  where
+    by : Dec (n ≡ 11) → error_type n ≡ true
+    by (yes e) = rw e
+    by (no a) = let e : n ≡ 12 = omega arith in rw e
+
+error_none : (n : ℕ) → (n ≡ 3 → ⊥) → (n ≡ 4 → ⊥) → (n ≡ 5 → ⊥) → (n ≡ 11 → ⊥) → (n ≡ 12 → ⊥) → error_type n ≡ false
+unfolding error_type
+error_none n a b c d e = rw (ne_eqb n 3 a, ne_eqb n 4 b, ne_eqb n 5 c, ne_eqb n 11 d, ne_eqb n 12 e)
+
+pub error_below : (n : ℕ) → n < 3 → error_type n ≡ false
+error_below n h = error_none n (λ e. omega arith) (λ e. omega arith) (λ e. omega arith) (λ e. omega arith) (λ e. omega arith)
+
+pub error_between : (n : ℕ) → 5 < n → n < 11 → error_type n ≡ false
+error_between n h h' = error_none n (λ e. omega arith) (λ e. omega arith) (λ e. omega arith) (λ e. omega arith) (λ e. omega arith)
+
 pub error_above : (n : ℕ) → 12 < n → error_type n ≡ false
 unfolding error_type
 error_above n h = grind (arith, nat_tests)
+
+-- A value of more than one word.
+pub number_large : (v : Value) → (v.upper ≡ 0 → ⊥) → 65536 ≤ number v
+unfolding number
+number_large v n = omega arith
 
 -- An ICMP error by its protocol and type alone: the type that an absent port would show is no error type.
 pub icmp_other : (n port : ℕ) → is_icmp n ≡ false → icmp_error n port ≡ false
