@@ -1,9 +1,10 @@
 -- Laws of ranges. Assumes nothing.
-use Rattle.std.specs.Prelude.{ℕ, zero, suc, ◌-◌, ◌≤◌, ◌<◌, ◌≡◌, ◌↔◌, refl, Bool, true, false, not, ◌&&◌, List, [], ◌∷◌, leb, ltb, eqb, length, get_or}
-use Rattle.std.proofs.Common.{arith, ap, le-leb, leb-true, lt-ltb, le-ltb, eq-eqb, ne_eqb, eqb-true}
+use Rattle.std.specs.Prelude.{ℕ, zero, suc, ◌+◌, ◌-◌, ◌≤◌, ◌<◌, ◌≡◌, ◌↔◌, refl, Bool, true, false, not, ◌&&◌, List, [], ◌∷◌, leb, ltb, eqb, length, get_or}
+use Rattle.std.proofs.Common.{arith, add-one, ap, le-leb, leb-true, lt-ltb, le-ltb, eq-eqb, ne_eqb, eqb-true}
 use Rattle.std.proofs.Math.Decide.{dec_le, dec_lt, ℕ_discrete}
 use Rattle.std.proofs.Math.Bool.{and-false}
 use Rattle.std.proofs.lemmas.Bool.{false≢true, lt-leb}
+use Rattle.std.proofs.Math.Dec.{leb-suc-suc}
 use Rattle.selectors.specs.Range.{Range, range, contains, holds, in_field, same_range, full, opaque, absent, port_size}
 
 -- Both of two tests that hold together hold.
@@ -37,6 +38,10 @@ not-ltb a b = by (dec_le b a)
     by (no h) = rw (lt-ltb a b (omega arith), lt-leb b a (omega arith))
 
 -- A range by two tests of order: below its low end it holds nothing, and from there on what is not above its high end.
+pub contains_not_below : (r : Range) (v : ℕ) → r.low ≤ v → not (ltb r.high v) ≡ contains r v
+unfolding contains
+contains_not_below r v p = rw (le-leb r.low v p) (not-ltb r.high v)
+
 pub contains_from : (r : Range) (v : ℕ) → r.low ≤ v → leb v r.high ≡ contains r v
 unfolding contains
 contains_from r v p = rw (le-leb r.low v p)
@@ -45,6 +50,11 @@ contains_from r v p = rw (le-leb r.low v p)
 pub in_field_reversed : (size : ℕ) (r : Range) → r.high < r.low → in_field size r ≡ false
 unfolding in_field
 in_field_reversed size r p = rw (lt-leb r.low r.high p)
+
+-- The same of a field whose highest value is h.
+pub in_field_ordered : (h : ℕ) (r : Range) → r.low ≤ r.high → not (ltb h r.high) ≡ in_field (h + 1) r
+unfolding in_field
+in_field_ordered h r p = rw (le-leb r.low r.high p, add-one, leb-suc-suc) (not-ltb h r.high)
 
 pub in_field_beyond : (size : ℕ) (r : Range) → 0 < size → size - 1 < r.high → in_field size r ≡ false
 unfolding in_field
