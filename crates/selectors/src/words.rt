@@ -122,7 +122,8 @@ fn range_in(words: &[u64], at: usize, value: Value) -> bool
 pub fn range_holds(words: &[u64], at: usize, value: Value) -> bool
     ensures { result ≡ contains (range_at words.now at) (number value) }
 {
-    ends_at(words, at).hold(value)
+    let ends = ends_at(words, at);
+    ends.hold(value)
 }
 
 fn value_of(values: &[u64; SELECTOR_WORDS], field: usize) -> Value

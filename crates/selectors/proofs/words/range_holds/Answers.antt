@@ -3,4 +3,4 @@ use mathlib.Core.Path.{◌∙◌}
 use Rattle.selectors.proofs.words.range_holds.Goals as goal
 
 pub returns : goal.returns
-returns c = c.hold.ensures ∙ rw c.ends_at.ensures
+returns c = c.hold.ensures ∙ rw c.ends_at-ends.ensures
