@@ -15,7 +15,7 @@ use Rattle.policy_text.specs.declared.Edition.TheVariants.{One}
 use Rattle.policy_text.specs.declared.ParseError.TheVariants.{NoRoom}
 use Rattle.policy_text.specs.declared.Refusal.{Refusal}
 use Rattle.policy_text.specs.declared.Rows.{Rows}
-use Rattle.policy_text.specs.declared.Refusal.TheVariants.{NotHeader, NotEnded, TooMany}
+use Rattle.policy_text.specs.declared.Refusal.TheVariants.{NotHeader, NotEnded, TooMany, BadRow}
 use Rattle.policy_text.specs.Bytes.{lf, count, are_same_bytes}
 use Rattle.policy_text.proofs.BytesLaws.{left_more, left_none, same_pointwise}
 use Rattle.policy_text.specs.Format.{lines_of, Lines, all_rows, bad_row, rows_of}
@@ -67,8 +67,15 @@ module _ (limit : ℕ) (s : List ℕ) where
 
 -- Lines, by the first bad row.
 module _ (ls : List (List ℕ)) where
-  pub bad_lines : (r : Refusal) → bad_of (rows_of edition1 1 ls) ≡ Err r → policy_of One (rows_of edition1 1 ls) ≡ refused r
-  bad_lines r e = by (rows_of edition1 1 ls) e
+  pub bad_lines : (k : ℕ) → bad_of (rows_of edition1 1 ls) ≡ Err (BadRow k) → rows_of edition1 1 ls ≡ bad_row k
+  bad_lines k e = by (rows_of edition1 1 ls) e
+    where
+      by : (l : Lines) → bad_of l ≡ Err (BadRow k) → l ≡ bad_row k
+      by (all_rows rs) h = let z : ◌≡◌ {A = ℕ} 0 1 = cc in absurd (omega arith)
+      by (bad_row j) h = cc
+
+  pub refused_lines : (r : Refusal) → bad_of (rows_of edition1 1 ls) ≡ Err r → policy_of One (rows_of edition1 1 ls) ≡ refused r
+  refused_lines r e = by (rows_of edition1 1 ls) e
     where
       by : (l : Lines) → bad_of l ≡ Err r → policy_of One l ≡ refused r
       by (all_rows rs) h = let z : ◌≡◌ {A = ℕ} 0 1 = cc in absurd (omega arith)
@@ -119,7 +126,7 @@ module _ (limit : ℕ) (s : List ℕ) where
         read_lines = within_limit limit s One headed ended (rw lines at l) ∙ rw lines
 
         pub with_bad : (r : Refusal) → bad_of (rows_of edition1 1 (lines_of n (drop 9 s))) ≡ Err r → parse_policy limit s ≡ refused r
-        with_bad r b = read_lines ∙ bad_lines (lines_of n (drop 9 s)) r b
+        with_bad r b = read_lines ∙ refused_lines (lines_of n (drop 9 s)) r b
 
         pub with_rows : bad_of (rows_of edition1 1 (lines_of n (drop 9 s))) ≡ Ok tt → FileIs (parse_policy limit s) (Ok (record { edition = One; count = n }))
         with_rows b =

@@ -1,5 +1,5 @@
 -- What printing answers and leaves. Assumes nothing: these are definitions.
-use Rattle.std.specs.Prelude.{ℕ, ◌≡◌, Result, Ok, Err, cond, List, ◌++◌, map, leb, length, drop}
+use Rattle.std.specs.Prelude.{ℕ, ◌+◌, ◌≡◌, Result, Ok, Err, cond, List, ◌++◌, map, leb, length, drop}
 use Rattle.std.proofs.lemmas.List.Edits.{sets}
 use Rattle.selectors.specs.declared.Direction.{Direction}
 use Rattle.policy.specs.Policy.{PolicyRow}
@@ -7,6 +7,11 @@ use Rattle.policy_text.specs.declared.Edition.{Edition}
 use Rattle.policy_text.specs.Editions.{format_of}
 use Rattle.policy_text.specs.Print.{policy_text, toward}
 use Rattle.policy_print.specs.declared.NoRoom.{NoRoom}
+
+-- A text stored from a place on, as far as the room goes, and the place after it.
+pub record Put (room : List ℕ) (at : ℕ) (text : List ℕ) (room' : List ℕ) (next : ℕ) : Type 0 where
+  pub place : next ≡ at + length text
+  pub bytes : room' ≡ sets room at text
 
 -- A text stored from the start of a room on, as far as the room goes, and its length.
 pub record Stored (room text room' : List ℕ) (count : ℕ) : Type 0 where

@@ -1,13 +1,14 @@
--- Laws of cuts, and what std's words say of them. Assumes nothing.
+-- Laws of cuts: one step of a walk over a text from the front, and what std's words say of them. Assumes nothing.
 use Rattle.std.specs.Prelude.{ℕ, zero, suc, ◌+◌, ◌-◌, ◌≤◌, ◌<◌, ◌≡◌, refl, Bool, true, false, cond, ◌&&◌, ◌||◌, List, [], ◌∷◌, eqb, ltb, length, get_or, take, drop, Some, None, unwrap_or}
 use Rattle.std.specs.List.{position_or_len, count_by, list_any}
 use Rattle.std.specs.Cmp.Lexicographic.{pointwise}
 use Rattle.std.proofs.lemmas.List.Recursion.{is_position_or_len, is_count_by}
 use Rattle.std.proofs.Common.{arith, ap, sym, ◌∙◌, add-one, length-drop, drop_of_length-le, drop-cons, take_all}
-use Rattle.std.proofs.Math.Decide.{dec_lt}
+use Rattle.std.proofs.Math.Decide.{dec_lt, dec_le}
+use Rattle.std.proofs.Math.Dec.{leb}
 use Rattle.std.proofs.lemmas.Bool.{false≢true}
 use Rattle.std.proofs.lemmas.Bool.Decides.{nat_tests}
-use borrow.Author.Tests.{lt-ltb, le-ltb, eq-eqb, eqb-true}
+use borrow.Author.Tests.{lt-ltb, le-ltb, le-leb, lt-leb, eq-eqb, ne_eqb, eqb-true}
 use Rattle.selectors.proofs.RangeLaws.{both_true}
 use Rattle.policy_text.specs.Bytes.{index, has, count, are_same_bytes}
 
@@ -17,6 +18,52 @@ left_more s i h = rw (add-one, drop-cons s i 0 h)
 
 pub left_none : (s : List ℕ) (i : ℕ) → length s ≤ i → drop i s ≡ []
 left_none s i h = drop_of_length-le s h
+
+-- One step of a search from the front, and of a count.
+module _ (b : ℕ) (s : List ℕ) (i : ℕ) where
+  pub index-here : i < length s → get_or s i 0 ≡ b → index b (drop i s) ≡ zero
+  unfolding index
+  index-here h e = rw (left_more s i h, eq-eqb (get_or s i 0) b e)
+
+  pub index-next : i < length s → (get_or s i 0 ≡ b → ⊥) → index b (drop i s) ≡ suc (index b (drop (i + 1) s))
+  unfolding index
+  index-next h n = rw (left_more s i h, ne_eqb (get_or s i 0) b n)
+
+  pub count-here : i < length s → get_or s i 0 ≡ b → count b (drop i s) ≡ suc (count b (drop (i + 1) s))
+  unfolding count
+  count-here h e = rw (left_more s i h, eq-eqb (get_or s i 0) b e)
+
+  pub count_next : i < length s → (get_or s i 0 ≡ b → ⊥) → count b (drop i s) ≡ count b (drop (i + 1) s)
+  unfolding count
+  count_next h n = rw (left_more s i h, ne_eqb (get_or s i 0) b n)
+
+  pub count_none : length s ≤ i → count b (drop i s) ≡ zero
+  unfolding count
+  count_none h = rw (left_none s i h)
+
+-- One step of a comparison from the front.
+module _ (s t : List ℕ) (i : ℕ) where
+  pub same_next : i < length s → i < length t → get_or s i 0 ≡ get_or t i 0
+      → are_same_bytes (drop i s) (drop i t) ≡ are_same_bytes (drop (i + 1) s) (drop (i + 1) t)
+  unfolding are_same_bytes
+  same_next h g e = rw (left_more s i h, left_more t i g, eq-eqb (get_or s i 0) (get_or t i 0) e)
+
+  pub same_differ : i < length s → i < length t → (get_or s i 0 ≡ get_or t i 0 → ⊥) → are_same_bytes (drop i s) (drop i t) ≡ false
+  unfolding are_same_bytes
+  same_differ h g n = rw (left_more s i h, left_more t i g, ne_eqb (get_or s i 0) (get_or t i 0) n)
+
+  pub same_longer : i < length s → length t ≤ i → are_same_bytes (drop i s) (drop i t) ≡ false
+  unfolding are_same_bytes
+  same_longer h g = rw (left_more s i h, left_none t i g)
+
+  -- At the end of the one, the texts are the same just if the other is at its end.
+  pub same_ended : length s ≤ i → leb (length t) i ≡ are_same_bytes (drop i s) (drop i t)
+  unfolding are_same_bytes
+  same_ended h = by (dec_le (length t) i)
+    where
+      by : Dec (length t ≤ i) → leb (length t) i ≡ are_same_bytes (drop i s) (drop i t)
+      by (yes g) = rw (le-leb (length t) i g, left_none s i h, left_none t i g)
+      by (no g) = rw (lt-leb (length t) i (omega arith), left_none s i h, left_more t i (omega arith))
 
 -- At the end of a text no byte is found.
 pub index_none : (b : ℕ) (s : List ℕ) (i : ℕ) → length s ≤ i → index b (drop i s) ≡ zero
@@ -67,6 +114,16 @@ has_any b (x ∷ s) = by (eqb x b) (has_any b s)
         → ltb (cond e zero (suc (index b s))) (suc (length s)) ≡ (e || list_any (λ y. eqb y b) s)
     by true h = lt-ltb zero (suc (length s)) (omega arith)
     by false h = sym (ltb_suc (index b s) (length s)) ∙ h
+
+-- Whether a text has a byte, by where it was looked for.
+module _ (b : ℕ) (s : List ℕ) (i : ℕ) (e : i ≡ index b s) where
+  pub has_there : i < length s → has b s ≡ true
+  unfolding has
+  has_there h = lt-ltb (index b s) (length s) (rw e at h)
+
+  pub has_not : length s ≤ i → has b s ≡ false
+  unfolding has
+  has_not h = le-ltb (index b s) (length s) (rw e at h)
 
 -- Whether two texts are the same, as std's `==` says it.
 pub same_pointwise : (s t : List ℕ) → pointwise eqb s t ≡ are_same_bytes s t

@@ -1,7 +1,8 @@
 -- Laws of decimals: one step of a walk over their digits. Assumes nothing.
-use Rattle.std.specs.Prelude.{ℕ, zero, suc, ◌+◌, ◌-◌, ◌*◌, ◌^◌, ◌≤◌, ◌<◌, ◌≡◌, refl, Bool, true, false, cond, not, ◌&&◌, List, [], ◌∷◌, leb, eqb, length, get_or, drop, Some, None}
+use Rattle.std.specs.Prelude.{ℕ, zero, suc, ◌+◌, ◌-◌, ◌*◌, ◌/◌, ◌^◌, ◌≤◌, ◌<◌, ◌≡◌, refl, Bool, true, false, cond, not, ◌&&◌, List, [], ◌∷◌, leb, eqb, length, get_or, drop, Some, None}
 use Rattle.std.specs.Char.{is_ascii_digit}
-use Rattle.std.proofs.Common.{arith, add-one}
+use Rattle.std.proofs.Common.{pow-suc, mul-div_cancel, arith, lit<, add-one}
+use Rattle.std.proofs.Math.Nat.{pow-le-pow_right}
 use Rattle.std.proofs.Math.Decide.{ℕ_discrete}
 use Rattle.std.proofs.Math.Bool.{and-false, or-true}
 use borrow.Author.Tests.{le-leb, lt-leb, leb-true, eq-eqb, ne_eqb}
@@ -16,6 +17,14 @@ module _ (s : List ℕ) (i : ℕ) where
   pub digits-next : i < length s → digits (drop i s) ≡ (is_ascii_digit (get_or s i 0) && digits (drop (i + 1) s))
   unfolding digits
   digits-next h = rw (left_more s i h)
+
+  pub digits_below : i < length s → get_or s i 0 < 48 → digits (drop i s) ≡ false
+  unfolding digits
+  digits_below h l = rw (left_more s i h, lt-leb 48 (get_or s i 0) l)
+
+  pub digits_above : i < length s → 57 < get_or s i 0 → digits (drop i s) ≡ false
+  unfolding digits
+  digits_above h u = rw (left_more s i h, lt-leb (get_or s i 0) 57 u, and-false)
 
   pub digits_ended : length s ≤ i → digits (drop i s) ≡ true
   unfolding digits
@@ -74,7 +83,28 @@ unpadded_more [] h = absurd (omega arith)
 unpadded_more (c ∷ []) h = absurd (omega arith)
 unpadded_more (c ∷ d ∷ s) h = refl
 
--- Masks, by the count of zeros: a mask with k zeros is one of those with fewer than z, and there is none where none has k, and none fewer.
+-- Masks, by the count of zeros: z - 1 of them, or fewer.
+pub power_half : (z : ℕ) → 0 < z → 2 ^ z / 2 ≡ 2 ^ (z - 1)
+power_half zero h = absurd (omega arith)
+power_half (suc k) h =
+    let e : suc k - 1 ≡ k = omega arith in
+    rw (pow-suc 2 k, e) (mul-div_cancel (2 ^ k) (lit< tt))
+
+pub power_fits : (z : ℕ) → z ≤ 33 → 2 ^ (z - 1) ≤ 4294967296
+power_fits z h = pow-le-pow_right (lit< tt) {i = z - 1} {j = 32} (omega arith)
+
+pub mask_next : (m z : ℕ) → 0 < z → (m ≡ 2 ^ 32 - 2 ^ (z - 1) → ⊥) → mask_below z m ≡ mask_below (z - 1) m
+unfolding mask_below
+mask_next m zero h n = absurd (omega arith)
+mask_next m (suc k) h n =
+    let p : suc k - 1 ≡ k = omega arith in
+    rw (p, ne_eqb m (2 ^ 32 - 2 ^ k) (rw p at n))
+
+pub mask_none : (m z : ℕ) → z ≤ 0 → mask_below z m ≡ false
+unfolding mask_below
+mask_none m z h = let e : z ≡ zero = omega arith in rw e
+
+-- A mask with k zeros is one of those with fewer than z, and there is none where none has k, and none fewer.
 pub mask-found : (m k z : ℕ) → k < z → m ≡ 2 ^ 32 - 2 ^ k → mask_below z m ≡ true
 unfolding mask_below
 mask-found m k zero h e = absurd (omega arith)
@@ -84,9 +114,9 @@ mask-found m k (suc z) h e = by (ℕ_discrete k z) (λ (n : k < z). mask-found m
     by (yes q) rest = rw (eq-eqb m (2 ^ 32 - 2 ^ z) (rw q at e))
     by (no n) rest = rw (rest (omega arith), or-true)
 
-pub mask_next : (m k : ℕ) → (m ≡ 2 ^ 32 - 2 ^ k → ⊥) → mask_below k m ≡ false → mask_below (k + 1) m ≡ false
+pub mask_missed : (m k : ℕ) → (m ≡ 2 ^ 32 - 2 ^ k → ⊥) → mask_below k m ≡ false → mask_below (k + 1) m ≡ false
 unfolding mask_below
-mask_next m k n e = rw (add-one, ne_eqb m (2 ^ 32 - 2 ^ k) n) e
+mask_missed m k n e = rw (add-one, ne_eqb m (2 ^ 32 - 2 ^ k) n) e
 
 at_most_if : (max : ℕ) (t : Bool) (n : ℕ) → (t ≡ true → n ≤ max) → AtMost max (cond t (Some n) None)
 at_most_if max true n f = f refl

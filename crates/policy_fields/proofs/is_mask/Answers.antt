@@ -2,7 +2,7 @@
 use Rattle.std.proofs.Common.{◌≡◌, ℕ, ◌<◌, ◌≤◌, ◌*◌, ◌%◌, ◌^◌, refl, sym, arith, lit<}
 use Rattle.std.proofs.Math.Nat.{pow-le-pow_right}
 use Rattle.policy_text.specs.Edition1.{mask_below}
-use Rattle.policy_text.proofs.FormatLaws.{mask-found, mask_next}
+use Rattle.policy_text.proofs.FormatLaws.{mask-found, mask_missed}
 use Rattle.policy_fields.proofs.is_mask.Goals as goal
 
 -- What 1 shifted by the zeros is.
@@ -21,4 +21,4 @@ returns-then-m-zeros c =
 pub loop-zeros-preserved : goal.loop-zeros-preserved
 loop-zeros-preserved c =
     let l = c.loop-zeros in
-    mask_next c.args.m l.zeros (rw (power l.zeros (omega arith)) at c.if-m-zeros.false) l.invariant
+    mask_missed c.args.m l.zeros (rw (power l.zeros (omega arith)) at c.if-m-zeros.false) l.invariant
