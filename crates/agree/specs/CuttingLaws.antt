@@ -130,8 +130,11 @@ module _ (spare : ℕ → Type 0) (list : List ℕ) where
       rest = below_more _ _ t.rest (inr s);
     }
 
+    pub chosen-next : (cuts' : List ℕ) → (cuts' ≡ next) ⊎ (spare (get_or list i 0) × (cuts' ≡ cuts)) → Chosen spare list (i + 1) cuts'
+    chosen-next cuts' o = ⊎_elim (λ e. rw e chosen_kept) (λ w. rw w.1 (chosen_passed w.0)) o
+
 -- What is true of each number that a test takes is true of each for which the test is.
-filter_each : (p : ℕ → Bool) (Q : ℕ → Type 0) (xs : List ℕ) → ((k : ℕ) → k < length (filter p xs) → Q (get_or (filter p xs) k 0))
+pub filter_each : (p : ℕ → Bool) (Q : ℕ → Type 0) (xs : List ℕ) → ((k : ℕ) → k < length (filter p xs) → Q (get_or (filter p xs) k 0))
     → (j : ℕ) → j < length xs → p (get_or xs j 0) ≡ true → Q (get_or xs j 0)
 filter_each p Q [] q j h e = absurd (omega arith)
 filter_each p Q (x ∷ xs) q j h e = by (p x) refl (filter p xs) q (filter_each p Q xs) j h e

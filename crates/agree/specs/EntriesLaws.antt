@@ -1,9 +1,9 @@
 -- Laws of entries: the rows of a list of entries on each side, what a search of these finds, and how a list of entries grows.
 -- Assumes nothing.
-use Rattle.std.specs.Prelude.{ℕ, zero, suc, ◌+◌, ◌-◌, ◌*◌, ◌/◌, ◌%◌, ◌≤◌, ◌<◌, ◌≡◌, refl, Bool, true, false, cond, List, [], ◌∷◌, ◌++◌, map, length, get_or, take, drop, Some, None}
+use Rattle.std.specs.Prelude.{ℕ, zero, suc, ◌+◌, ◌-◌, ◌*◌, ◌/◌, ◌%◌, ◌≤◌, ◌<◌, ◌≡◌, refl, Bool, true, false, cond, List, [], ◌∷◌, ◌++◌, ◌≢◌, ◌⊎◌, map, length, get_or, take, drop, Option, Some, None}
 use Rattle.std.specs.List.{filter, slice_range}
 use native.Mathlib.Omega.{arith}
-use Rattle.std.proofs.Common.{add_assoc, add-one, ◌∙◌, ap, sym, lit<, take-suc, lt-ltb, le-ltb, eq-eqb, ne_eqb, append-nil, get_or-take}
+use Rattle.std.proofs.Common.{add_assoc, add-one, ◌∙◌, ap, sym, ⊎_elim, lit<, take-suc, lt-ltb, le-ltb, eq-eqb, ne_eqb, append-nil, get_or-take}
 use Rattle.std.proofs.Math.Seq.{drop-cons}
 use Rattle.std.proofs.lemmas.List.{drop_all, map-append, length-append, get_or-drop}
 use Rattle.std.proofs.lemmas.List.Elements.{filter-append}
@@ -16,10 +16,11 @@ use Rattle.policy.specs.Words.{row_words, row_limit}
 use Rattle.cover.specs.Boxes.{ranges_word, row_of, in_second, table_of, code_holds}
 use Rattle.cover.specs.RangesLaws.{ranges_moved}
 use Rattle.agree.specs.Sides.{row_behind, Alike, on_side, code_action, Sides, sides, on_at, action_at, holds_at, on, first_of, side_action, Agreed, sides_of, side_rows, SideRows, Next}
+use Rattle.agree.specs.declared.sides.Side.{Side}
 use Rattle.agree.specs.declared.sides.Side.TheVariants.{First, Second}
 
 -- A row from any field on is what its words from the action on are.
-row_same : (first second : List ℕ) (a b : ℕ)
+pub row_same : (first second : List ℕ) (a b : ℕ)
     → ((k : ℕ) → k < row_words → 1 ≤ k → get_or first (a * row_words + k) 0 ≡ get_or second (b * row_words + k) 0)
     → (f : ℕ) → row_behind first f a ≡ row_behind second f b
 row_same first second a b same f =
@@ -77,6 +78,9 @@ module _ (first second xs ys es : List ℕ) (r : SideRows first second xs ys es)
 
 pub merge_none : (first second : List ℕ) → SideRows first second [] [] []
 merge_none first second = record { fits = omega arith; on_first = λ f. refl; on_second = λ f. refl }
+
+pub cut_none : (ws : List ℕ) (p q : ℕ → Bool) → SideRows ws ws (filter p []) (filter q []) []
+cut_none ws p q = merge_none ws ws
 
 -- The code of a row at a cut: its row, its policy, its sides.
 module _ (x : ℕ) where
@@ -156,6 +160,10 @@ module _ (ws : List ℕ) (r : ℕ → Range) (one other : ℕ) (list : List ℕ)
         by false true z = absurd (omega arith)
         by false false z = simp append-nil t
 
+    pub cut-next : (s : ℕ) → s ≡ sides_of (r x) one other → c ≡ 8 * x + s → length es < 2 * row_limit
+        → (es' : List ℕ) → ((0 < s) × (es' ≡ es ++ c ∷ [])) ⊎ ((s ≤ 0) × (es' ≡ es)) → Cut (i + 1) es'
+    cut-next s q k l es' o = ⊎_elim (λ w. rw w.1 (cut_more l (rw q at k))) (λ w. rw w.1 (cut_passed (omega (arith, q)))) o
+
 -- A search of the rows of a side: what the first entry on it that holds the values gives.
 choose : (us : List ℕ) (g : ℕ → ℕ) (h : ℕ → Row ℕ) (a : Bool) (e : ℕ) (es : List ℕ) (i k : ℕ) → (h e).leaf ≡ g i → find 0 (map h es) us ≡ g k
     → find 0 (map h (cond a (e ∷ es) es)) us ≡ g (cond (cond a (holds (h e).ranges us) false) i k)
@@ -219,6 +227,32 @@ module _ (first xs : List ℕ) (i : ℕ) (second ys : List ℕ) (j : ℕ) where
   pub next_both : i < length xs → j < length ys → ((f : ℕ) → row_behind first f (get_or xs i 0) ≡ row_behind second f (get_or ys j 0)) → Next first xs i second ys j None
   next_both h g s = record { of-first = λ e. h; of-second = λ e. g; same = λ e. s }
 
+  -- How far each list is then used.
+  module _ (who : Option Side) (u v : ℕ) (t : Next first xs i second ys j who) where
+    pub step_first : (who ≡ Some Second → u ≡ 0) × (who ≢ Some Second → u ≡ 1) → i ≤ length xs → i + u ≤ length xs
+    step_first o h = by who refl
+      where
+        by : (w : Option Side) → who ≡ w → i + u ≤ length xs
+        by None e = omega (arith, o.1 (λ z. cc), t.of-first (λ z. cc))
+        by (Some First) e = omega (arith, o.1 (λ z. cc), t.of-first (λ z. cc))
+        by (Some Second) e = omega (arith, o.0 e)
+
+    pub step_second : (who ≡ Some First → v ≡ 0) × (who ≢ Some First → v ≡ 1) → j ≤ length ys → j + v ≤ length ys
+    step_second o h = by who refl
+      where
+        by : (w : Option Side) → who ≡ w → j + v ≤ length ys
+        by None e = omega (arith, o.1 (λ z. cc), t.of-second (λ z. cc))
+        by (Some First) e = omega (arith, o.0 e)
+        by (Some Second) e = omega (arith, o.1 (λ z. cc), t.of-second (λ z. cc))
+
+    pub step_some : (who ≡ Some Second → u ≡ 0) × (who ≢ Some Second → u ≡ 1) → (who ≡ Some First → v ≡ 0) × (who ≢ Some First → v ≡ 1) → 1 ≤ u + v
+    step_some o p = by who refl
+      where
+        by : (w : Option Side) → who ≡ w → 1 ≤ u + v
+        by None e = omega (arith, o.1 (λ z. cc))
+        by (Some First) e = omega (arith, o.1 (λ z. cc))
+        by (Some Second) e = omega (arith, p.1 (λ z. cc))
+
 -- The entries of two lists with one entry more: a row of the first on the first side, of the second on the second, of both on both.
 module _ (first second xs ys es : List ℕ) (i j : ℕ) (r : SideRows first second (take i xs) (take j ys) es) (h : length es < 2 * row_limit) where
   abbrev pub Merged : ℕ → ℕ → ℕ → Type 0
@@ -253,3 +287,20 @@ module _ (first second xs ys es : List ℕ) (i j : ℕ) (r : SideRows first seco
       (entry_more first second _ _ es r h c (get_or xs i 0 ∷ []) (get_or ys j 0 ∷ [])
       (λ f. rows_on first second f false c first (get_or xs i 0) (eq-eqb (c % 2) 1 (omega arith)) (row_first f c 3 e (omega arith)))
       (λ f. rows_on first second f true c second (get_or ys j 0) (eq-eqb (c / 2 % 2) 1 (omega arith)) (row_first f c 3 e (omega arith) ∙ same f)))
+
+  -- The next entry is that of the row whose turn it is, and each list is used as far.
+  pub merge-next : (who : Option Side) (c u v : ℕ) → Next first xs i second ys j who
+      → (who ≡ Some First → c ≡ 8 * get_or xs i 0 + 1) → (who ≡ Some Second → c ≡ 8 * get_or ys j 0 + 6) → (who ≡ None → c ≡ 8 * get_or xs i 0 + 3)
+      → (who ≡ Some Second → u ≡ 0) × (who ≢ Some Second → u ≡ 1) → (who ≡ Some First → v ≡ 0) × (who ≢ Some First → v ≡ 1) → Merged (i + u) (j + v) c
+  merge-next None c u v t a b ab o p =
+      let q : i + u ≡ i + 1 = omega (arith, o.1 (λ z. cc)) in
+      let q' : j + v ≡ j + 1 = omega (arith, p.1 (λ z. cc)) in
+      rw (q, q') (merge_both (t.of-first (λ z. cc)) (t.of-second (λ z. cc)) (t.same refl) c (ab refl))
+  merge-next (Some First) c u v t a b ab o p =
+      let q : i + u ≡ i + 1 = omega (arith, o.1 (λ z. cc)) in
+      let q' : j + v ≡ j = omega (arith, p.0 refl) in
+      rw (q, q') (merge_first (t.of-first (λ z. cc)) c (a refl))
+  merge-next (Some Second) c u v t a b ab o p =
+      let q : i + u ≡ i = omega (arith, o.0 refl) in
+      let q' : j + v ≡ j + 1 = omega (arith, p.1 (λ z. cc)) in
+      rw (q, q') (merge_second (t.of-second (λ z. cc)) c (b refl))

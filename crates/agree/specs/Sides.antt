@@ -176,6 +176,10 @@ pub record Next (first xs : List ℕ) (i : ℕ) (second ys : List ℕ) (j : ℕ)
   pub of-second : r ≢ Some First → j < length ys
   pub same : r ≡ None → (f : ℕ) → row_behind first f (get_or xs i 0) ≡ row_behind second f (get_or ys j 0)
 
+-- The numbers of a list are, in order, those that a test takes from other numbers.
+abbrev pub Takes : (ℕ → Bool) → List ℕ → List ℕ → Type 0
+Takes test among list = list ≡ filter test among
+
 -- A number is one of the first n of a list; or one of the list.
 pub record Early (xs : List ℕ) (n x : ℕ) : Type 0 where
   pub place : ℕ

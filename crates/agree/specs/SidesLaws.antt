@@ -1,5 +1,5 @@
 -- Laws of two sides: what a test of an entry says, and that sides agree where no entry of one of them clashes. Assumes nothing.
-use Rattle.std.specs.Prelude.{ℕ, zero, suc, ◌+◌, ◌/◌, ◌%◌, ◌≤◌, ◌<◌, ◌≡◌, Bool, not, cond, List, [], ◌∷◌, ◌++◌, ◌≢◌, length, get_or, Option, Some, None}
+use Rattle.std.specs.Prelude.{ℕ, zero, suc, ◌+◌, ◌/◌, ◌%◌, ◌≤◌, ◌<◌, ◌≡◌, Bool, not, cond, List, [], ◌∷◌, ◌++◌, ◌≢◌, ◌⊎◌, length, get_or, Option, Some, None}
 use Rattle.std.proofs.Common.{arith, sym, ◌∙◌, ⊎_elim, lt-ltb, le-ltb, eqb-true}
 use Rattle.std.proofs.Math.Decide.{dec_lt, ℕ_discrete}
 use Rattle.std.proofs.Math.Nat.{div-div-eq-div-mul}
@@ -13,7 +13,7 @@ use Rattle.std.proofs.lemmas.Bool.{eqb-false}
 use Rattle.cover.specs.Boxes.{ranges_word, InBox, row_of, table_of, code_holds, Common, Apart, Covers, Covered}
 use Rattle.agree.specs.declared.sides.Side.{Side}
 use Rattle.agree.specs.declared.sides.Side.TheVariants.{First, Second}
-use Rattle.agree.specs.Sides.{is_second, side_of, on_side, code_action, Sides, count, on_at, action_at, holds_at, on, first_of, Unseen, EntryApart, EntryCovers, EntryCommon, Earlier, Listed, Before, Hidden, Passed, Ended, Peace, Harmless, SameSides, Agreed}
+use Rattle.agree.specs.Sides.{is_second, side_of, on_side, code_action, Sides, sides, count, on_at, action_at, holds_at, on, first_of, Unseen, EntryApart, EntryCovers, EntryCommon, Earlier, Listed, Before, Hidden, Passed, Ended, Peace, Harmless, SameSides, Agreed}
 
 -- The side, the action and the ranges of an entry are those of its code; the end row is on both sides, discards and holds everything.
 module _ (es : List ℕ) (s : Bool) (k : ℕ) where
@@ -41,6 +41,12 @@ module _ (E : Sides) (k : ℕ) where
   holds_end : (us : List ℕ) → count E ≤ k → holds_at E us k ≡ true
   unfolding holds_at
   holds_end us h = rw (le-ltb k (count E) h)
+
+-- Whether two actions are the same does not depend on the field.
+pub action_same : (first second es : List ℕ) (f k d x a : ℕ) → x ≡ action_at (sides first second es 0) k → x ≡ a → a ≡ action_at (sides first second es 0) d
+    → action_at (sides first second es f) k ≡ action_at (sides first second es f) d
+unfolding action_at
+action_same first second es f k d x a p q r = sym p ∙ q ∙ r
 
 -- How an entry stands to a box is how the row of its code does.
 module _ (E : Sides) (k : ℕ) (bs : List ℕ) where
@@ -90,6 +96,9 @@ module _ (es : List ℕ) (s : Bool) (d : ℕ) (list : List ℕ) where
         by (no m) =
             let e : i ≡ length list = omega (arith, length-append list (get_or es j 0 ∷ [])) in
             rw (e, get_or-append_seam list (get_or es j 0) [] 0) record { place = j; below = omega arith; code = refl; earlier = r }
+
+    pub before-next : (list' : List ℕ) → (Earlier s d (get_or es j 0) j × (list' ≡ list ++ get_or es j 0 ∷ [])) ⊎ (list' ≡ list) → Before es s d (j + 1) list'
+    before-next list' o = ⊎_elim (λ w. rw w.1 (before_more w.0)) (λ w. rw w before_passed) o
 
 -- A code that comes before on its own side, or is on the other.
 module _ (s : Bool) (d e j : ℕ) where

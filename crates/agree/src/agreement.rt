@@ -50,7 +50,8 @@ impl Entries<'_> {
     // boxes it may look at `left`, as those below may.
     fn hidden(&self, asked: Asked, k: usize, bounds: &Bounds, left: &mut usize) -> bool
         requires { k ≤ length self.now.codes.now }
-        ensures { result ≡ true → Hidden (sides_in self.now) (is_second asked.side) asked.row k bounds.now.words }
+        ensures fewer { left.new ≤ left.old }
+        ensures hidden { result ≡ true → Hidden (sides_in self.now) (is_second asked.side) asked.row k bounds.now.words }
     {
         let mut list = ArrayVec::new();
         self.before(asked, k, bounds, &mut list);
@@ -107,7 +108,8 @@ impl Entries<'_> {
     // Whether the conflicts of the row asked about, from the entry `from` on, are never seen in the box: entries before cover what they share.
     fn conflicts_hidden(&self, asked: Asked, from: usize, bounds: &Bounds, left: &mut usize) -> bool
         requires { from ≤ length self.now.codes.now }
-        ensures { result ≡ true → Peace (sides_in self.now) (is_second asked.side) asked.row from (suc (length self.now.codes.now)) bounds.now.words }
+        ensures fewer { left.new ≤ left.old }
+        ensures peace { result ≡ true → Peace (sides_in self.now) (is_second asked.side) asked.row from (suc (length self.now.codes.now)) bounds.now.words }
     {
         let mut k = from;
         // Stays: a `loop`, since it goes from conflict to conflict, and counts no index.
@@ -127,7 +129,8 @@ impl Entries<'_> {
     // seen.
     fn harmless(&self, asked: Asked, bounds: &Bounds, left: &mut usize) -> bool
         requires { asked.row < length self.now.codes.now }
-        ensures { result ≡ true → Harmless (sides_in self.now) (is_second asked.side) asked.row bounds.now.words }
+        ensures fewer { left.new ≤ left.old }
+        ensures harmless { result ≡ true → Harmless (sides_in self.now) (is_second asked.side) asked.row bounds.now.words }
     {
         let own = self.common(asked.row, bounds);
         let Some(k) = self.conflict(asked, asked.row + 1, &own) else {

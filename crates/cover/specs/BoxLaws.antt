@@ -106,6 +106,14 @@ module _ (s : Stand) (row box : Range) where
   pub field_covered : s ≢ Outside → RangeCovers row box → FieldStand s row box s
   field_covered n t = record { apart = λ e. absurd (n e); covers = λ e. (e, t) }
 
+-- Any stand that is not said to cover, or that says neither.
+module _ (s r : Stand) (row box : Range) where
+  pub field_apart : r ≢ Covering → RangeApart row box → FieldStand s row box r
+  field_apart c t = record { apart = λ e. t; covers = λ e. absurd (c e) }
+
+  pub field_cut : r ≢ Outside → r ≢ Covering → FieldStand s row box r
+  field_cut a c = record { apart = λ e. absurd (a e); covers = λ e. absurd (c e) }
+
 -- The row holds the box's values in each of the fields from f on and before n.
 unfoldable pub CoversTo : List ℕ → ℕ → ℕ → List ℕ → ℕ → Type 0
 CoversTo ws at f bs n = (g : ℕ) → f ≤ g → g < n → RangeCovers (range_at ws (at + range_words * g)) (range_at bs (range_words * g))
@@ -119,6 +127,10 @@ module _ (ws : List ℕ) (at f : ℕ) (bs : List ℕ) where
   pub covers_none : CoversTo ws at f bs f
   unfolding CoversTo
   covers_none g l h = absurd (omega arith)
+
+  pub covers_before : (n : ℕ) → n ≤ f → CoversTo ws at f bs n
+  unfolding CoversTo
+  covers_before n k g l h = absurd (omega arith)
 
   pub covers_more : (n : ℕ) → CoversTo ws at f bs n → RangeCovers (range_at ws (at + range_words * n)) (range_at bs (range_words * n)) → CoversTo ws at f bs (n + 1)
   unfolding CoversTo
@@ -139,8 +151,11 @@ module _ (ws : List ℕ) (at f : ℕ) (bs : List ℕ) where
   pub box_covered : (s : Stand) → s ≢ Outside → (s ≡ Covering → Covers ws at f bs) → BoxStand ws at f bs s
   box_covered s n t = record { apart = λ e. absurd (n e); covers = t }
 
-  pub box_unknown : BoxStand ws at f bs Unknown
-  box_unknown = record { apart = λ e. absurd cc; covers = λ e. absurd cc }
+  pub box_unknown : (s : Stand) → s ≢ Outside → s ≢ Covering → BoxStand ws at f bs s
+  box_unknown s a c = box_covered s a (λ e. absurd (c e))
+
+  pub box_not_known : BoxStand ws at f bs Unknown
+  box_not_known = record { apart = λ e. absurd cc; covers = λ e. absurd cc }
 
   pub covers_each : ((g : ℕ) → f ≤ g → g < field_count → RangeCovers (range_at ws (at + range_words * g)) (range_at bs (range_words * g))) → Covers ws at f bs
   unfolding Covers
@@ -249,9 +264,15 @@ one_side false false = inr refl
 
 -- The listed rows cover a box that one of them covers; a survey says so.
 module _ (first second es : List ℕ) (f : ℕ) (bs : List ℕ) where
-  pub surveyed-row : (k : ℕ) → k < length es → Covers (table_of first second (slice_index es k)) (ranges_word (row_of (slice_index es k))) f bs → Surveyed first second es f bs Covering
+  pub surveyed-row : (k : ℕ) (s : Stand) → k < length es → BoxStand (table_of first second (slice_index es k)) (ranges_word (row_of (slice_index es k))) f bs s
+      → Surveyed first second es f bs s
   unfolding Surveyed Covered Covers
-  surveyed-row k h t c us i miss = false≢true (sym (miss k h) ∙ t us i)
+  surveyed-row k s h t c us i miss = false≢true (sym (miss k h) ∙ t.covers c us i)
+
+  pub surveyed_covering : (k : ℕ) → k < length es → Covers (table_of first second (slice_index es k)) (ranges_word (row_of (slice_index es k))) f bs
+      → Surveyed first second es f bs Covering
+  unfolding Surveyed Covered Covers
+  surveyed_covering k h t c us i miss = false≢true (sym (miss k h) ∙ t us i)
 
   pub surveyed_none : (s : Stand) → s ≢ Covering → Surveyed first second es f bs s
   unfolding Surveyed

@@ -8,7 +8,7 @@ pub loop-row-preserved : goal.loop-row-preserved
 loop-row-preserved c =
     below_more _ _ c.loop-row.invariant
     (elim c.match-lone.branch [
-      | in-Some+else-not-harmless w ↦ same_lone _ _ _ c.loop-row-test.true _ c.lone.ensures _ w.in-Some.is (w.harmless.ensures w.if-not-harmless.false)
+      | in-Some+else-not-harmless w ↦ same_lone _ _ _ c.loop-row-test.true _ c.lone.ensures _ w.in-Some.is (w.harmless.ensures.harmless w.if-not-harmless.false)
       | in_default w ↦ same_none _ _ _ c.loop-row-test.true _ c.lone.ensures w.in_default.is
     ])
 

@@ -2,5 +2,5 @@
 use Rattle.agree.specs.SidesLaws.{listed_hide}
 use Rattle.agree.proofs.sides.Entries.hidden.Goals as goal
 
-pub returns : goal.returns
-returns c = λ e. listed_hide _ _ _ _ _ _ c.requires c.before-2.ensures (rw c.deref.ensures.0 at (c.covered.ensures.covered e))
+pub returns-clause-hidden : goal.returns-clause-hidden
+returns-clause-hidden c = λ e. listed_hide _ _ _ _ _ _ c.requires c.before-2.ensures (rw c.deref.ensures.0 at (c.covered.ensures.covered e))
