@@ -1,14 +1,37 @@
 -- Laws of words with zeros after them, and of a normal form in a room for `capacity` rows. Assumes nothing.
-use Rattle.std.specs.Prelude.{ℕ, ◌-◌, ◌*◌, ◌≤◌, ◌≡◌, refl, List, [], ◌++◌, take, drop, replicate, Ok}
+use Rattle.std.specs.Prelude.{ℕ, zero, suc, ◌-◌, ◌*◌, ◌≤◌, ◌<◌, ◌≡◌, refl, List, [], ◌∷◌, ◌++◌, get_or, take, drop, replicate, Ok}
 use Rattle.std.proofs.Common.{arith, ◌∙◌, append-nil, length-append, length-drop, take_at}
 use borrow.Rule.Slice.PartMut.{put_mid}
-use Rattle.std.proofs.Math.ListN.{length, drop_of_length-le}
+use Rattle.std.proofs.Math.ListN.{length, length-take, get_or-eq_default, drop_of_length-le}
 use Rattle.std.proofs.lemmas.List.{length-replicate}
+use Rattle.std.proofs.Math.Seq.{get_or-take}
 use Rattle.selectors.specs.declared.Direction.{Direction}
 use Rattle.policy.specs.Words.{row_words}
 use Rattle.policy_text.specs.Editions.{Rules}
 use Rattle.decorrelate.specs.Form.{form, form_words, padded, form_room, form_answer, form_after}
 use Rattle.decorrelate.specs.FormLaws.{form_words-length, form_within}
+
+-- A word that is not there is 0, and so are all of a list of zeros.
+zero_word : (n i : ℕ) → ◌≡◌ {A = ℕ} (get_or (replicate n 0) i 0) 0
+zero_word zero i = refl
+zero_word (suc n) zero = refl
+zero_word (suc n) (suc i) = zero_word n i
+
+get_d_zeros : (ws : List ℕ) (n i : ℕ) → get_or (ws ++ replicate n 0) i 0 ≡ get_or ws i 0
+get_d_zeros [] n i = zero_word n i
+get_d_zeros (w ∷ ws) n zero = refl
+get_d_zeros (w ∷ ws) n (suc i) = get_d_zeros ws n i
+
+-- The words with zeros after them, word by word.
+module _ (size : ℕ) (ws : List ℕ) (used i : ℕ) where
+  pub padded_front : i < used → get_or (padded size (take used ws)) i 0 ≡ get_or ws i 0
+  unfolding padded
+  padded_front h = get_d_zeros (take used ws) (size - length (take used ws)) i ∙ get_or-take used ws i 0 h
+
+  pub padded_rest : used ≤ i → get_or (padded size (take used ws)) i 0 ≡ 0
+  unfolding padded
+  padded_rest h =
+      get_d_zeros (take used ws) (size - length (take used ws)) i ∙ get_or-eq_default (take used ws) 0 (omega (arith, length-take used ws))
 
 pub padded_size : (size : ℕ) (ws : List ℕ) → length ws ≤ size → length (padded size ws) ≡ size
 unfolding padded

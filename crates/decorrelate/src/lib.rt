@@ -82,5 +82,8 @@ pub fn same(edition: Edition, first: &[u64], second: &[u64], direction: Directio
     let mut room = [0u64; ROOM_WORDS];
     let top = highest(edition);
     let laid = layout::layout(first, second, direction, top, 0, &mut room);
-    matches!(laid, Ok(0))
+    match laid {
+        Ok(count) => count == 0,
+        Err(_) => false,
+    }
 }

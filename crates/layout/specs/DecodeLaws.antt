@@ -1,22 +1,28 @@
 -- Laws of decoding. Assumes nothing.
 use Prim.Native.Nat.{ℕ, zero, suc, ◌+◌, ◌-◌, ◌*◌, ◌/◌, ◌≤◌, ◌<◌}
 use native.Mathlib.Omega.{arith}
-use Rattle.std.specs.Prelude.{◌≡◌, true, false, ◌↔◌, List, ◌∷◌, ◌++◌, length, get_or, take, drop, [], Option, Some, None}
+use Rattle.std.specs.Prelude.{◌≡◌, Bool, true, false, ◌↔◌, List, ◌∷◌, ◌++◌, eqb, length, get_or, take, drop, [], Option, Some, None}
 use Rattle.std.proofs.Math.Path.{refl, sym, ap}
-use Rattle.std.proofs.Common.{◌∙◌, get_or-take, get_or-drop, drop-cons}
+use Rattle.std.proofs.Common.{◌∙◌, eq-eqb, get_or-take, get_or-drop, drop-cons}
 use Rattle.std.proofs.lemmas.Bool.{false≢true}
-use Rattle.selectors.proofs.HeldLaws.{all_ranges, all_values}
-use Rattle.selectors.specs.Value.{combination}
-use Rattle.selectors.specs.Words.{field_count, range_words, values_from, selectors_in, words_of_ranges}
+use Rattle.selectors.proofs.HeldLaws.{ranges-next, all_ranges, all_values}
+use Rattle.selectors.specs.Range.{Range, same_range}
+use Rattle.selectors.proofs.RangeLaws.{same_range_true}
+use Rattle.selectors.specs.Value.{number, combination}
+use Rattle.selectors.specs.Words.{field_count, range_words, ends_at, range_at, ranges_from, values_from, selectors_in, words_of_ranges}
 use Rattle.selectors.proofs.WordsLaws.{AllWords, ranges_exact, selectors_values}
 use Rattle.selectors.specs.declared.Direction.{Direction}
+use Rattle.selectors.specs.declared.ranges.Ends.{Ends}
 use Rattle.selectors.specs.declared.Fields.{Fields}
 use Rattle.selectors.specs.declared.Value.{Value}
+use Rattle.normal_form.specs.Search.{row}
 use Rattle.policy.specs.Policy.{matches, ordered_search, match_from}
 use Rattle.policy.specs.Words.{action_word, row_at, policy_rows, row_words}
 use Rattle.policy.proofs.WordsLaws.{action-word, action_found, search_match}
 use Rattle.cover.specs.Boxes.{ranges_word}
 use Rattle.cover.specs.RangesLaws.{ranges_moved}
+use Rattle.agree.specs.Sides.{range_of}
+use Rattle.layout.specs.Parting.{parting}
 use Rattle.layout.specs.Decode.{row_ranges, active, part_row, part_rows}
 
 -- A row is the same at two places whose words are the same.
@@ -69,6 +75,20 @@ unfolding part_rows
 rows-length f n ws i zero = refl
 rows-length f n ws i (suc c) = ap suc (rows-length f n ws (i + 1) c)
 
+-- Two ranges of four words by their ends: the same if the low ends are and the high ends are.
+module _ (ws : List ℕ) (a b : ℕ) (own other : Ends) (e : own ≡ ends_at ws a) (e' : other ≡ ends_at ws b) where
+  pub ranges_low : eqb (number own.low) (number other.low) ≡ false → same_range (range_at ws a) (range_at ws b) ≡ false
+  unfolding same_range
+  ranges_low h = rw (rw (e, e') at h)
+
+  pub ranges_high : eqb (number own.low) (number other.low) ≡ true → eqb (number own.high) (number other.high) ≡ same_range (range_at ws a) (range_at ws b)
+  unfolding same_range
+  ranges_high h = rw (rw (e, e') at h, e, e')
+
+same_range_refl : (r : Range) → same_range r r ≡ true
+unfolding same_range
+same_range_refl r = rw (eq-eqb r.low r.low refl, eq-eqb r.high r.high refl)
+
 -- A test that comes out one way or the other.
 pub always : {P : Type 0} → P → (true ≡ true) ↔ P
 always p = (λ e. p, λ q. refl)
@@ -79,6 +99,39 @@ never n = (λ e. absurd (false≢true e), λ p. absurd (n p))
 -- Two lists are the same where their heads are and their tails are.
 cons_same : {A : Type 0} (x y : A) (xs ys : List A) → x ≡ y → (x ∷ xs ≡ y ∷ ys) ↔ (xs ≡ ys)
 cons_same x y xs ys e = (λ h. cc, λ h. cc)
+
+-- The ranges of two rows from a field on, one field at a time.
+module _ (ws : List ℕ) (a b f : ℕ) where
+  pub same_ranges_go : f < field_count → same_range (range_of ws a f) (range_of ws b f) ≡ true
+      → (row_ranges ws a f (field_count - f) ≡ row_ranges ws b f (field_count - f)) ↔ (row_ranges ws a (f + 1) (field_count - (f + 1)) ≡ row_ranges ws b (f + 1) (field_count - (f + 1)))
+  same_ranges_go h e = rw (ranges-next ws (ranges_word a) f field_count h, ranges-next ws (ranges_word b) f field_count h) (cons_same _ _ _ _ (same_range_true _ _ e))
+
+  pub same_ranges_stop : f < field_count → same_range (range_of ws a f) (range_of ws b f) ≡ false → row_ranges ws a f (field_count - f) ≡ row_ranges ws b f (field_count - f) → ⊥
+  same_ranges_stop h e p =
+      let q : range_of ws a f ∷ row_ranges ws a (f + 1) (field_count - (f + 1)) ≡ range_of ws b f ∷ row_ranges ws b (f + 1) (field_count - (f + 1)) =
+      sym (ranges-next ws (ranges_word a) f field_count h) ∙ p ∙ ranges-next ws (ranges_word b) f field_count h in
+      let r : range_of ws a f ≡ range_of ws b f = cc in
+      false≢true (sym e ∙ rw r (same_range_refl (range_of ws b f)))
+
+  pub same_ranges_end : field_count ≤ f → row_ranges ws a f (field_count - f) ≡ row_ranges ws b f (field_count - f)
+  unfolding ranges_from
+  same_ranges_end h = let e : field_count - f ≡ zero = omega arith in rw e
+
+-- Two rows are the same where their first two words are and their ranges are.
+module _ (f n : ℕ) (ws : List ℕ) (a b : ℕ) where
+  pub same-row_first : (get_or ws (a * row_words) 0 ≡ get_or ws (b * row_words) 0 → ⊥) → part_row f n ws a ≡ part_row f n ws b → ⊥
+  unfolding part_row
+  same-row_first d e = d (λ i. (e i).leaf.second)
+
+  pub same-row_second : (get_or ws (a * row_words + 1) 0 ≡ get_or ws (b * row_words + 1) 0 → ⊥) → part_row f n ws a ≡ part_row f n ws b → ⊥
+  unfolding part_row
+  same-row_second d e = d (λ i. (e i).leaf.first)
+
+  pub same-row_ranges : (r : Bool) → get_or ws (a * row_words) 0 ≡ get_or ws (b * row_words) 0 → get_or ws (a * row_words + 1) 0 ≡ get_or ws (b * row_words + 1) 0
+      → (r ≡ true) ↔ (row_ranges ws a f n ≡ row_ranges ws b f n) → (r ≡ true) ↔ (part_row f n ws a ≡ part_row f n ws b)
+  unfolding part_row
+  same-row_ranges r p q s =
+      (λ t. let u = s.0 t in λ i. row (u i) (parting (q i) (p i)), λ t. s.1 (λ i. (t i).ranges))
 
 -- Two words, and the words of parts that are the same.
 two_words : (ws : List ℕ) (i : ℕ) → i + 2 ≤ length ws → take 2 (drop i ws) ≡ get_or ws i 0 ∷ get_or ws (i + 1) 0 ∷ []

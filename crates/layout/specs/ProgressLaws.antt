@@ -4,7 +4,7 @@ use native.Mathlib.Omega.{arith}
 use Rattle.std.proofs.Math.Decide.{dec_le}
 use Rattle.std.proofs.Math.Nat.{min-eq_left}
 use Rattle.std.proofs.Common.{add-one, sym, ◌∙◌, ⊎_elim, length-drop, length-take-le, get_or-take, get_or-append-add, le-leb}
-use Rattle.std.specs.Prelude.{◌≡◌, refl, List, [], ◌∷◌, ◌++◌, length, get_or, take, drop, Option, Some, None, Result, Ok, Err}
+use Rattle.std.specs.Prelude.{◌≡◌, refl, List, [], ◌∷◌, ◌++◌, ◌⊎◌, length, get_or, take, drop, Option, Some, None, Result, Ok, Err}
 use Rattle.std.proofs.Math.Path.{ap}
 use Rattle.std.proofs.lemmas.Bool.{lt-leb}
 use Rattle.std.proofs.Math.ListN.{get_or-append}
@@ -220,6 +220,18 @@ pub turned : {first second before ws part ws'' : List ℕ} {task : Task} {f v w 
     → Progress first second task before f ws'' new (w + 1)
 turned {first} {second} {before} {ws} {part} {ws''} {task} {f} {v} {w} {top} {limit} {old} {new} {laid} {q} h e p r k is s m =
     turn_stretch first second task before f h v w e.reaches e.alike ws part _ ws'' old new limit p (omega (arith, r.start)) (rw k r.enough) laid q is s m
+
+-- An answer that is no count: there are more rows than the limit. The tag of an answer is its place among the answers.
+pub laid_else : (limit f n : ℕ) (form : List (Row Parting)) (ws : List ℕ) (tag : Result ℕ LayoutError → ℕ) → ((m : ℕ) → tag (Ok m) ≡ 0) → (r : Result ℕ LayoutError)
+    → LaidOut limit f n form ws r → (tag r ≡ 1) ⊎ (tag r ≡ 2) → limit < length form
+laid_else limit f n form ws tag z r l o = by (dec_le (length form) limit)
+  where
+    by : Dec (length form ≤ limit) → limit < length form
+    by (yes h) =
+        let e : r ≡ Ok (length form) = rw (le-leb (length form) limit h) at l.answer in
+        let t : tag r ≡ 0 = ap tag e ∙ z (length form) in
+        absurd (⊎_elim (λ p. omega arith) (λ p. omega arith) o)
+    by (no h) = omega arith
 
 -- One more than a value below another one is no more than the largest.
 pub one_more : (M n e t : ℕ) → n ≡ min (e + 1) (M - 1) → e < t → t < M → n ≡ e + 1

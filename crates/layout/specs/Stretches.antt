@@ -12,6 +12,11 @@ use Rattle.layout.specs.declared.LayoutError.{LayoutError}
 use Rattle.layout.specs.declared.LayoutError.TheVariants.{Over}
 use Rattle.layout.specs.declared.Point.{Point}
 
+-- The answer of a layout as that of one which may be known.
+unfoldable pub stretch_of : Result ℕ LayoutError → Result (Option ℕ) LayoutError
+stretch_of (Ok n) = Ok (Some n)
+stretch_of (Err e) = Err e
+
 -- The layout behind the value v is that behind the value before it.
 unfoldable pub Joins : ℕ → (ℕ → List (Row Parting)) → Type 0
 Joins v form = (0 < v) × (form v ≡ form (v - 1))

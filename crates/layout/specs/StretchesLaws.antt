@@ -1,9 +1,9 @@
 -- Laws of what is laid out behind one value of a field. Assumes nothing.
-use Rattle.std.specs.Prelude.{ℕ, ◌+◌, ◌*◌, ◌≤◌, ◌<◌, refl, List, [], length, Option, Some, None, Result, Ok, Err}
+use Rattle.std.specs.Prelude.{ℕ, ◌+◌, ◌*◌, ◌≤◌, ◌<◌, refl, false, List, [], length, Option, Some, None, Result, Ok, Err, is_ok}
 use Rattle.std.proofs.Common.{arith, sym, le-leb}
 use Rattle.std.proofs.Math.Decide.{dec_le}
 use Rattle.std.proofs.Math.Path.{◌≡◌}
-use Rattle.std.proofs.lemmas.Bool.{lt-leb}
+use Rattle.std.proofs.lemmas.Bool.{false≢true, lt-leb}
 use Rattle.normal_form.specs.Search.{Row}
 use Rattle.policy.specs.Words.{row_words}
 use Rattle.layout.specs.Parting.{Parting}
@@ -11,7 +11,7 @@ use Rattle.layout.specs.Decode.{part_rows}
 use Rattle.layout.specs.Steps.{LaidOut, Placed}
 use Rattle.layout.specs.StepsLaws.{laid-rows}
 use Rattle.layout.specs.ProgressLaws.{laid-count}
-use Rattle.layout.specs.Stretches.{Joins, StretchOut, PlacedStretch}
+use Rattle.layout.specs.Stretches.{stretch_of, Joins, StretchOut, PlacedStretch}
 use Rattle.layout.specs.declared.Kept.{Kept}
 use Rattle.layout.specs.declared.LayoutError.{LayoutError}
 use Rattle.layout.specs.declared.LayoutError.TheVariants.{Over}
@@ -55,6 +55,16 @@ module _ (limit f n v : ℕ) (form : ℕ → List (Row Parting)) (ws : List ℕ)
       by d' e (no h) =
           let z : ◌≡◌ {A = Result ℕ LayoutError} (Err d) (Err Over) = rw (lt-leb (length (form v)) limit (omega arith)) at l.answer in
           (cc, omega arith)
+
+  pub stretch_laid : (laid : Result ℕ LayoutError) → LaidOut limit f n (form v) ws laid → StretchOut limit f n v form ws (stretch_of laid)
+  unfolding stretch_of
+  stretch_laid (Ok c) l = stretch_rows c l
+  stretch_laid (Err d) l = stretch_over d l
+
+  -- An answer that is no rows, counted or known, is that there are more than the limit.
+  pub over_told : (r : Result (Option ℕ) LayoutError) → StretchOut limit f n v form ws r → is_ok r ≡ false → r ≡ Err Over
+  over_told (Ok c) s e = absurd (false≢true (sym e))
+  over_told (Err d) s e = let h = s.over d refl in rw h.0
 
 -- Room for the rows behind the rows so far.
 pub stretch_fits : (limit f n v : ℕ) (form : ℕ → List (Row Parting)) (ws : List ℕ) (r : Result (Option ℕ) LayoutError) → StretchOut limit f n v form ws r → (next room : ℕ)

@@ -21,7 +21,8 @@ fn alike_to(range: Ends, span: Span) -> Value
     ensures { IntervalEnd (number span.from) (number span.last) (number result) (AlikeTo (ends_range range) (number span.from) (number result)) }
 {
     if span.from < range.low {
-        return range.low.previous().min(span.last);
+        let before = range.low.previous();
+        return before.min(span.last);
     }
     if range.high < span.from {
         return span.last;

@@ -11,7 +11,7 @@ pub returns-then-lt : goal.returns-then-lt
 returns-then-lt c = let a = c.args in
     ends_below (ends_range a.range) _ _ _ a.span.ordered _
     (ltb-true _ _ (sym (value-lt _ _) ∙ sym c.lt.ensures ∙ c.if-lt.true))
-    c.previous.ensures
+    c.previous-before.ensures
     (less-number _ _ _ c.min.ensures)
 
 pub returns-then-lt-2 : goal.returns-then-lt-2
