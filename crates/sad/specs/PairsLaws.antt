@@ -2,16 +2,16 @@
 use Prim.Native.Nat.{ℕ, zero, suc, ◌+◌, ◌-◌, ◌*◌, ◌<◌, ◌≤◌}
 use native.Mathlib.Omega.{arith}
 use Rattle.std.proofs.Math.Numerals.{add-one}
-use Rattle.std.specs.Prelude.{◌≡◌, Option, Some, None, Err, Bool, is_some, cond, ◌&&◌, List, [], ◌∷◌, eqb, length, set}
+use Rattle.std.specs.Prelude.{◌≡◌, Option, Some, None, Err, Bool, is_some, cond, ◌&&◌, List, [], ◌∷◌, ltb, eqb, length, get_or, set}
 use Rattle.std.proofs.Math.Path.{refl, ap}
 use Rattle.std.proofs.Common.{sym, ◌∙◌}
-use Rattle.std.proofs.Math.Bool.{true, false}
+use Rattle.std.proofs.Math.Bool.{true, false, or-false}
 use mathlib.Core.Bool.{and-true, and-false}
 use Rattle.std.specs.Option.{option_map, ok_or}
 use Rattle.std.proofs.lemmas.Option.{none-some, same_Some}
 use Rattle.std.proofs.Math.Dec.{leb}
 use Rattle.std.proofs.lemmas.List.Edits.{sets}
-use borrow.Author.Tests.{lt-ltb, le-leb, lt-leb}
+use borrow.Author.Tests.{lt-ltb, le-ltb, le-leb, lt-leb, eq-eqb, ne_eqb}
 use Rattle.selectors.specs.Range.{holds}
 use Rattle.selectors.specs.Words.{ranges_at}
 use Rattle.sad.specs.declared.NewPair.{NewPair}
@@ -19,6 +19,20 @@ use Rattle.sad.specs.declared.Head.{Head}
 use Rattle.sad.specs.declared.PairError.{PairError}
 use Rattle.sad.specs.declared.PairError.TheVariants.{ReservedSpi, AlreadyLive, TableFull, BadPair, NothingToRemove}
 use Rattle.sad.specs.Pairs.{Pair, place_count, head_words, place_words, ipsec, pair_at, is_live_at, pairs_from, pairs, found_pair, pair_for, place_of, free_place, reserved_spi, well_formed, pair_words, add_outcome, added, remove_outcome, removed, named, live, fitting, named_at, free_at, wanted, before, beats, best_of, head_of, head_beats, first_from, fits_at, Outcome, done}
+
+-- What is made where the test that chose holds, and not elsewhere.
+pub chosen-made : {A : Type 0} (made : A → Bool) (x y : A) → made x ≡ true → made y ≡ false → (b : Bool) → made (cond b x y) ≡ b
+chosen-made made x y p q true = p
+chosen-made made x y p q false = q
+
+-- Of two pairs the smaller inbound SPI goes before, and on a tie the smaller protocol: ESP before AH.
+pub before_tied : (q b : Pair) → q.inbound_spi ≡ b.inbound_spi → ltb q.protocol b.protocol ≡ before q b
+unfolding before
+before_tied q b e = rw (le-ltb q.inbound_spi b.inbound_spi (omega arith), eq-eqb q.inbound_spi b.inbound_spi e)
+
+pub before_other : (q b : Pair) → (q.inbound_spi ≡ b.inbound_spi → ⊥) → ltb q.inbound_spi b.inbound_spi ≡ before q b
+unfolding before
+before_other q b n = rw (ne_eqb q.inbound_spi b.inbound_spi n, or-false)
 
 -- The first of the places that are left is the one, or is passed over, or there is none.
 module _ (test : ℕ → Bool) (i n : ℕ) where
@@ -45,7 +59,8 @@ unfolding before
 heads_beat q None = refl
 heads_beat q (Some b) = refl
 
-best-next : (ws : List ℕ) (number : ℕ) (vs : List ℕ) (best : Option Pair) (i : ℕ) → i < place_count
+-- One more place of the search for the best pair, and its end, whatever the best so far.
+pub best-next : (ws : List ℕ) (number : ℕ) (vs : List ℕ) (best : Option Pair) (i : ℕ) → i < place_count
     → best_of number vs best (pairs_from ws i (place_count - i))
     ≡ best_of number vs (cond (is_live_at ws i && wanted number vs (pair_at ws i) && beats (pair_at ws i) best) (Some (pair_at ws i)) best) (pairs_from ws (i + 1) (place_count - (i + 1)))
 unfolding pairs_from
@@ -59,6 +74,10 @@ best-next ws number vs best i h =
     by true l true e = rw (l, best-cons number vs best (pair_at ws i), e)
     by true l false e = rw (l, best-cons number vs best (pair_at ws i), e)
     by false l b e = rw l
+
+pub best_all : (ws : List ℕ) (number : ℕ) (vs : List ℕ) (best : Option Pair) (i : ℕ) → place_count ≤ i → best_of number vs best (pairs_from ws i (place_count - i)) ≡ best
+unfolding pairs_from best_of
+best_all ws number vs best i h = let k : place_count - i ≡ zero = omega arith in rw k
 
 reordered : (l n h b : Bool) → l && (n && h) && b ≡ (l && n && b) && h
 reordered false n h b = refl
@@ -234,6 +253,17 @@ module _ (ws : List ℕ) (number : ℕ) (vs : List ℕ) where
       by : (b : Option Pair) → option_map head_of b ≡ Some h → Some (record { protocol = h.protocol; spi = h.spi_out }) ≡ found_pair b
       by None e = absurd (none-some h e)
       by (Some q) e = rw (← same_Some (head_of q) h e)
+
+-- The pair for a packet is the one at the best place.
+module _ (ws : List ℕ) (number : ℕ) (vs : List ℕ) where
+  pub pair_found : (best : ℕ) → Some (pair_at ws best) ≡ best_of number vs None (pairs ws)
+      → Some (record { protocol = get_or ws (best * place_words) 0; spi = get_or ws (best * place_words + 2) 0 }) ≡ pair_for number vs (pairs ws)
+  unfolding pair_for pair_at
+  pair_found best e = rw (← e)
+
+  pub pair_nothing : None ≡ best_of number vs None (pairs ws) → None ≡ pair_for number vs (pairs ws)
+  unfolding pair_for
+  pair_nothing e = rw (← e)
 
 -- What `ok_or` and a `?` return where there is no place.
 pub no_place : (place : Option ℕ) (e y : PairError) → ok_or place e ≡ Err y → (place ≡ None) × (y ≡ e)

@@ -139,6 +139,7 @@ pub fn place_of(table: &[u64; TABLE_WORDS], protocol: u64, spi_in: u32) -> Optio
 }
 
 // Whether that pair is live.
+#[tactic(auto, using(crate::specs::PairsLaws::live_at, crate::specs::PairsLaws::live_nowhere))]
 pub fn is_live(table: &[u64; TABLE_WORDS], protocol: u64, spi_in: u32) -> bool
     ensures { result ≡ live protocol spi_in (pairs table.now) }
 {
@@ -269,7 +270,9 @@ pub fn add(table: &mut [u64; TABLE_WORDS], pair: NewPair) -> Result<(), PairErro
     if is_live(table, pair.protocol, pair.spi_in) {
         return Err(PairError::AlreadyLive);
     }
-    let place = free_place(table).ok_or(PairError::TableFull)?;
+    let Some(place) = free_place(table) else {
+        return Err(PairError::TableFull);
+    };
     put_pair(table, place * PLACE_WORDS, pair);
     Ok(())
 }
@@ -280,7 +283,9 @@ pub fn remove(table: &mut [u64; TABLE_WORDS], protocol: u64, spi_in: u32) -> Res
     ensures answer { result ≡ remove_outcome (pairs table.old) protocol spi_in }
     ensures table_after { table.new ≡ removed table.old protocol spi_in }
 {
-    let place = place_of(table, protocol, spi_in).ok_or(PairError::NothingToRemove)?;
+    let Some(place) = place_of(table, protocol, spi_in) else {
+        return Err(PairError::NothingToRemove);
+    };
     table[place * PLACE_WORDS] = 0;
     Ok(())
 }

@@ -1,16 +1,28 @@
 -- Laws of a cache lent as words. Assumes nothing.
-use Rattle.std.specs.Prelude.{ℕ, suc, ◌+◌, ◌*◌, ◌%◌, ◌≤◌, min, max, ◌≡◌, take}
-use Rattle.std.proofs.Common.{arith, add-one, ◌∙◌, length-take, length-set, take-append-drop, take-suc-set, take_all, take_at}
+use Rattle.std.specs.Prelude.{Some, ℕ, suc, ◌+◌, ◌*◌, ◌%◌, ◌<◌, ◌≤◌, min, max, ◌≡◌, refl, take}
+use Rattle.std.proofs.Common.{arith, add-one, ◌∙◌, length-take, length-set, take-append-drop, take-suc, take-suc-set, take_all, take_at}
 use Rattle.std.proofs.Math.Nat.{mod-lt}
 use Rattle.std.proofs.Math.Path.{sym, ap}
 use mathlib.Core.List.{List, [], ◌∷◌, ◌++◌, append_assoc}
 use Rattle.std.proofs.Math.ListN.{length, get_or, drop, set, length-drop}
 use Rattle.std.proofs.Math.Seq.{take-take, set-get_or, drop-length, paste, length-paste}
 use Rattle.std.proofs.lemmas.List.{set_split, take-append-le, drop-append-le, get_or-append_right}
+use Rattle.selectors.specs.declared.Direction.{Direction}
+use Rattle.policy.specs.Policy.{match_from}
 use Rattle.policy.specs.Words.{row_words}
 use Rattle.spd_cache.specs.declared.Cache.{Cache}
-use Rattle.spd_cache.specs.Cache.{slot_count, slots_words, used_words, in_use, put, stored}
+use Rattle.spd_cache.specs.Cache.{slot_count, slots_words, used_words, in_use, cached, action_at, put, stored}
+use Rattle.spd_cache.proofs.CacheLaws.{slot_bound, used_action}
 use Rattle.spd_cache.specs.Lent.{count_at, next_at, cache_size, cache_from, cache_words}
+
+-- One turn of a copy: the first i words are copied, and the next one is.
+pub copied_next : (to from : List ℕ) (i : ℕ) → i < length to → i < length from → take i to ≡ take i from
+    → take (i + 1) (set to i (get_or from i 0)) ≡ take (i + 1) from
+copied_next to from i h g e = rw (add-one, take-suc-set to i (get_or from i 0) h, take-suc from i 0 g, e) refl
+
+-- A list that is copied whole.
+pub copied_whole : (to from : List ℕ) (n : ℕ) → length to ≡ n → take n to ≡ take n from → to ≡ take n from
+copied_whole to from n h e = sym (take_all n to (omega (arith, h))) ∙ e
 
 -- The words of a cache: those of the slots, and then two more.
 pub two_more : (to words : List ℕ) (n a b : ℕ) → length to ≡ n + 2 → length words ≡ n → take n to ≡ take n words
@@ -69,6 +81,14 @@ module _ (ws : List ℕ) (h : length ws ≡ cache_size) where
   pub slots-in_use : in_use (cache_from ws) ≡ used_words ws (get_or ws count_at 0)
   unfolding cache_from
   slots-in_use = take-take (min (get_or ws count_at 0) slot_count * row_words) slots_words ws (omega arith)
+
+  -- A hit is in one of the slots in use, and its action is read where it lies.
+  pub hit_below : (d : Direction) (vs : List ℕ) (j : ℕ) → match_from 0 d (cached (cache_from ws)) vs ≡ Some j → j < min (get_or ws count_at 0) slot_count
+  unfolding cache_from
+  hit_below d vs j e = slot_bound (take slots_words ws) (get_or ws count_at 0) d vs j e
+
+  pub hit_action : (j : ℕ) → j < min (get_or ws count_at 0) slot_count → action_at (in_use (cache_from ws)) j ≡ action_at ws j
+  hit_action j l = rw slots-in_use (used_action ws (get_or ws count_at 0) j l)
 
   -- A row stored where it lies.
   pub stored-words : (rows : List ℕ) (j : ℕ) → j * row_words + row_words ≤ length rows

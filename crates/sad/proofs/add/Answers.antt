@@ -1,11 +1,9 @@
 -- `sad::add` meets its contract: the refusals in their order, and then the lowest free place. Assumes nothing.
 use Rattle.std.specs.Prelude.{Some}
-use Rattle.std.proofs.Common.{arith, ◌≡◌, sym, ◌∙◌}
-use Rattle.std.proofs.lemmas.Result.{err_from_is_err_and}
+use Rattle.std.proofs.Common.{◌≡◌, sym, ◌∙◌}
 use borrow.Author.Tests.{not-true, not-false}
-use Rattle.sad.specs.declared.PairError.TheVariants.{TableFull}
 use Rattle.sad.specs.Pairs.{free_place}
-use Rattle.sad.specs.PairsLaws.{no_place, add_reserved, add_bad, add-live, add-full, add_at}
+use Rattle.sad.specs.PairsLaws.{add_reserved, add_bad, add-live, add-full, add_at}
 use Rattle.sad.proofs.add.Goals as goal
 
 pub returns-then-is_reserved : goal.returns-then-is_reserved
@@ -27,21 +25,19 @@ returns-then-is_live c =
     in
     record { answer = h.0; table_after = h.1 }
 
-pub returns-in_err-place : goal.returns-in_err-place
-returns-in_err-place c =
+pub returns-in_default : goal.returns-in_default
+returns-in_default c =
     let a = c.args in
-    let none = no_place c.free_place.result TableFull c.in_err-place.field-0.0 (sym c.ok_or.ensures.value ∙ c.in_err-place.was) in
     let h =
     add-full a.table.now a.pair (sym c.is_reserved.ensures ∙ c.if-is_reserved.false) (sym c.is_well_formed.ensures ∙ not-false _ c.if-not-is_well_formed.false-raw)
-    (sym c.is_live.ensures ∙ c.if-is_live.false) (sym c.free_place.ensures ∙ none.0)
+    (sym c.is_live.ensures ∙ c.if-is_live.false) (sym c.free_place.ensures ∙ c.in_default.is)
     in
-    let p = err_from_is_err_and c.from_residual.result c.from_residual.ensures.1 in
-    record { answer = p.1 ∙ rw (p.2, none.1) h.0; table_after = h.1 }
+    record { answer = h.0; table_after = h.1 }
 
 pub returns : goal.returns
 returns c =
     let a = c.args in
-    let is_free : free_place a.table.now ≡ Some c.in_ok-place.place = grind arith in
+    let is_free : free_place a.table.now ≡ Some c.in-Some.place = sym c.free_place.ensures ∙ c.in-Some.is in
     let h =
     add_at a.table.now a.pair (sym c.is_reserved.ensures ∙ c.if-is_reserved.false) (sym c.is_well_formed.ensures ∙ not-false _ c.if-not-is_well_formed.false-raw)
     (sym c.is_live.ensures ∙ c.if-is_live.false) _ is_free
