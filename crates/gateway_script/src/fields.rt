@@ -1,5 +1,5 @@
 // The fields of a script's line: decimals and byte strings.
-ghost use Rattle.std.specs.Prelude.{◌<◌, IfSome};
+ghost use Rattle.std.specs.Prelude.{◌<◌, ◌≤◌, length, IfSome};
 
 use arrayvec::ArrayVec;
 
@@ -8,6 +8,9 @@ pub const FIELDS: usize = 16;
 
 // No byte string of a script is longer, since a line with more digits has no room in it.
 const MOST_BYTES: usize = 65536;
+
+// The place of a byte string. A script has one, since 64 KiB for each line would cost more than the line.
+pub type Room = ArrayVec<u8, MOST_BYTES>;
 
 // The name and the fields of a line, if there are no more than an operation has.
 pub fn fields_of(line: &[u8]) -> Option<ArrayVec<&[u8], FIELDS>> {
@@ -36,21 +39,23 @@ pub fn word(text: &[u8]) -> Option<u32> {
     u32::try_from(number(text)?).ok()
 }
 
-// The bytes that a text of lowercase hexadecimal stands for.
-pub fn bytes(text: &[u8]) -> Option<ArrayVec<u8, MOST_BYTES>> {
-    let mut bytes = ArrayVec::new();
+// The bytes that a text of lowercase hexadecimal stands for, written to the room.
+pub fn bytes<'a>(text: &[u8], room: &'a mut Room) -> Option<&'a [u8]>
+    ensures { IfSome result (λ bytes. length bytes.now ≤ MOST_BYTES) }
+{
+    room.clear();
     match text {
         [] => return None,
-        b"-" => return Some(bytes),
+        b"-" => return Some(room.as_slice()),
         _ => {}
     }
     for pair in text.chunks(2) {
         let [high, low] = pair else {
             return None;
         };
-        bytes.try_push(digit(*high)? * 16 + digit(*low)?).ok()?;
+        room.try_push(digit(*high)? * 16 + digit(*low)?).ok()?;
     }
-    Some(bytes)
+    Some(room.as_slice())
 }
 
 // A digit of lowercase hexadecimal. Stays: `char::to_digit` takes capitals too.

@@ -20,6 +20,7 @@ mod answers;
 mod fields;
 mod operations;
 
+use fields::Room;
 use operations::Gateway;
 use program_input::{Reason, read_full};
 use std::env::FillError;
@@ -71,10 +72,11 @@ fn from_input(rt: &(impl Print + Eprint), source: &mut impl Read) {
 // Where the output cannot be written, the calls go on without it.
 fn replay(rt: &impl Print, script: &[u8]) {
     let mut gateway = Gateway::new(0);
+    let mut room = Room::new();
     for line in script.split_inclusive(|byte| *byte == b'\n') {
         let line = line.strip_suffix(b"\n").unwrap_or(line);
         if is_operation(line) {
-            let _ = match gateway.carry_out(line) {
+            let _ = match gateway.carry_out(line, &mut room) {
                 Some(answer) => println!(rt; "= {answer}"),
                 None => println!(rt; "= bad operation"),
             };

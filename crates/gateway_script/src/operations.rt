@@ -9,7 +9,7 @@ ghost use Rattle.verdicts.specs.Calls.{from_sa_by};
 ghost use Rattle.gateway.specs.Cached.{outbound_cached, inbound_cached};
 
 use crate::answers::Answer;
-use crate::fields::{bytes, fields_of, number, word};
+use crate::fields::{Room, bytes, fields_of, number, word};
 use acceptance::Caches;
 use sad::{NewPair, TABLE_WORDS};
 use selectors::{Direction, Ends, Ranges, Value};
@@ -38,8 +38,8 @@ impl Gateway {
         }
     }
 
-    // Carries a line out; one that is no operation changes nothing.
-    pub fn carry_out(&mut self, line: &[u8]) -> Option<Answer>
+    // Carries a line out; one that is no operation changes nothing. The room is for its byte string.
+    pub fn carry_out(&mut self, line: &[u8], room: &mut Room) -> Option<Answer>
         ensures { IfNone result (self.new ≡ self.old) }
     {
         let fields = fields_of(line)?;
@@ -50,13 +50,13 @@ impl Gateway {
             }
             [b"add", of_pair @ ..] => Some(self.add(pair_of(of_pair)?)),
             [b"remove", protocol, spi] => Some(self.remove(number(protocol)?, word(spi)?)),
-            [b"policy", file] => Some(self.accept(bytes(file)?.as_slice())),
-            [b"out", packet] => Some(self.outbound(bytes(packet)?.as_slice())),
-            [b"in", packet] => Some(self.inbound(bytes(packet)?.as_slice())),
+            [b"policy", file] => Some(self.accept(bytes(file, room)?)),
+            [b"out", packet] => Some(self.outbound(bytes(packet, room)?)),
+            [b"in", packet] => Some(self.inbound(bytes(packet, room)?)),
             [b"from", protocol, spi, packet] => Some(self.from_sa(
                 number(protocol)?,
                 word(spi)?,
-                bytes(packet)?.as_slice(),
+                bytes(packet, room)?,
             )),
             _ => None,
         }
