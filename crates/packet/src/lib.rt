@@ -191,6 +191,7 @@ fn ports_at(bytes: &[u8], direction: Direction, end: usize) -> Ports
 }
 
 // All that is read, with the upper part up to `end`.
+#[inline(never)]
 fn packet_at(bytes: &[u8], direction: Direction, end: usize) -> Packet
     requires { Inside bytes.now end }
     ensures { result ≡ packet_of direction bytes.now end }

@@ -67,10 +67,11 @@ impl Writer<'_> {
     fn put(&mut self, byte: u8)
         ensures { Puts self.old (byte ∷ []) self.new }
     {
-        if self.at < self.out.len() {
-            self.out[self.at] = byte;
+        let at = self.at;
+        if at < self.out.len() {
+            self.out[at] = byte;
         }
-        self.at = self.at.saturating_add(1);
+        self.at = at.saturating_add(1);
     }
 
     fn put_text(&mut self, text: &[u8])
