@@ -1,6 +1,6 @@
 -- `cover::apart::apart_from` meets its contract. Some field in which the ranges are apart. Assumes nothing.
 use Rattle.std.specs.Bool.{⊤}
-use Rattle.std.proofs.Common.{ℕ, ap, refl, rules, ◌-◌, ◌*◌}
+use Rattle.std.proofs.Common.{ℕ, ap, refl, rules, arith, ◌*◌}
 use borrow.Author.Tests.{tests}
 use Rattle.std.proofs.lemmas.Iterator.{cases_from_any, YieldsList-from_range}
 use Rattle.selectors.specs.Ranges.{ends_range}
@@ -12,5 +12,5 @@ use Rattle.cover.proofs.apart.apart_from.Goals as goal
 pub returns : goal.returns
 returns c = λ e.
     let P = λ (f : ℕ). RangeApart (range_at c.in-Some.row.now (range_words * f)) (range_at c.args.bounds.now.words (range_words * f)) in
-    let t = any_field c.args.field P _ _ (cases_from_any _ _ _ P (λ x. ⊤) c.any.ensures.ran (YieldsList-from_range c.args.field field_count (field_count - c.args.field) refl refl) (λ x q k. search (rules, tests)) (λ x q k. search (rules, tests))) e in
-    field_parts _ _ _ _ t.0 t.1 t.2 (rw (ap ends_range (rw (c.table_of.ensures, c.row_of.ensures) at (c.in-Some.ensures t.0 t.2))) at t.3)
+    let t = any_field _ P _ _ (cases_from_any _ _ _ P (λ x. ⊤) c.any.ensures.ran (YieldsList-from_range _ field_count _ refl refl) (λ x q k. search (rules, tests)) (λ x q k. search (rules, tests))) e in
+    field_parts _ _ _ _ t.0 (omega (arith, t.1, t.2)) t.2 (rw (ap ends_range (rw (c.table_of.ensures, c.row_of.ensures) at (c.in-Some.ensures t.0 t.2))) at t.3)
